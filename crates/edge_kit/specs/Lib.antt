@@ -1,0 +1,3 @@
+-- What contracts say of sources, sinks and words.
+pub mod Edges
+pub mod Memory
