@@ -1,0 +1,2 @@
+-- What the reader computes, where text_model has no word for it.
+pub mod When

@@ -1,0 +1,153 @@
+//! The kind of each token.
+
+ghost use Rattle.std.specs.Prelude.{◌≡◌, codes, if◌then◌else◌};
+ghost use Rattle.std.specs.List.{list_all};
+ghost use Rattle.std.specs.Str.{bytes_eq};
+ghost use Rattle.mlir_lex.specs.Bytes.{is_digit, is_bare_byte, starts_bare};
+ghost use Rattle.text_model.specs.FirstWords.{bare_kind, bracket_kind, is_bare, kind_of, sign_kind, text_kind};
+
+use crate::slices::{inside, same};
+use mlir_lex::{TokenKind, is_bare_byte, is_digit, starts_bare};
+use text_model::first::FirstKind;
+
+/// The kind of a token with these bytes.
+#[tactic(auto, unfolding(text_model::specs::FirstWords::kind_of))]
+pub fn kind_of(kind: TokenKind, piece: &[u8]) -> FirstKind
+    ensures { result ≡ kind_of kind piece.now }
+{
+    match kind {
+        TokenKind::Text => text_kind(piece),
+        TokenKind::Bare => bare_kind(piece),
+        TokenKind::Sign => sign_kind(piece),
+        TokenKind::ValueName => FirstKind::ValueName,
+        TokenKind::BlockName => FirstKind::Label,
+        TokenKind::AttrName => attr_kind(piece),
+        TokenKind::Number => number_kind(piece),
+        TokenKind::TypeName | TokenKind::SymbolName => FirstKind::Other,
+    }
+}
+
+#[tactic(auto, unfolding(text_model::specs::FirstWords::text_kind))]
+fn text_kind(piece: &[u8]) -> FirstKind
+    ensures { result ≡ text_kind piece.now }
+{
+    let name = inside(piece);
+    if same(name, b"builtin.module") {
+        FirstKind::Module
+    } else if same(name, b"func.func") {
+        FirstKind::Func
+    } else if same(name, b"arith.constant") {
+        FirstKind::Constant
+    } else if same(name, b"arith.addi") {
+        FirstKind::Sum
+    } else if same(name, b"func.return") {
+        FirstKind::Return
+    } else if is_bare(name) {
+        FirstKind::NameText
+    } else {
+        FirstKind::Other
+    }
+}
+
+#[tactic(auto, unfolding(text_model::specs::FirstWords::bare_kind))]
+fn bare_kind(piece: &[u8]) -> FirstKind
+    ensures { result ≡ bare_kind piece.now }
+{
+    if same(piece, b"i32") {
+        FirstKind::I32
+    } else if same(piece, b"value") {
+        FirstKind::ValueKey
+    } else if same(piece, b"overflowFlags") {
+        FirstKind::OverflowFlags
+    } else if same(piece, b"none") {
+        FirstKind::NoneFlag
+    } else if same(piece, b"function_type") {
+        FirstKind::FunctionType
+    } else if same(piece, b"sym_name") {
+        FirstKind::SymName
+    } else {
+        FirstKind::Other
+    }
+}
+
+#[tactic(auto, unfolding(text_model::specs::FirstWords::sign_kind))]
+fn sign_kind(piece: &[u8]) -> FirstKind
+    ensures { result ≡ sign_kind piece.now }
+{
+    if same(piece, b"(") {
+        FirstKind::Open
+    } else if same(piece, b")") {
+        FirstKind::Close
+    } else if same(piece, b":") {
+        FirstKind::Colon
+    } else if same(piece, b"=") {
+        FirstKind::Equals
+    } else if same(piece, b"->") {
+        FirstKind::Arrow
+    } else if same(piece, b",") {
+        FirstKind::Comma
+    } else {
+        bracket_kind(piece)
+    }
+}
+
+#[tactic(auto, unfolding(text_model::specs::FirstWords::bracket_kind))]
+fn bracket_kind(piece: &[u8]) -> FirstKind
+    ensures { result ≡ bracket_kind piece.now }
+{
+    if same(piece, b"<") {
+        FirstKind::Less
+    } else if same(piece, b">") {
+        FirstKind::Greater
+    } else if same(piece, b"{") {
+        FirstKind::OpenBrace
+    } else if same(piece, b"}") {
+        FirstKind::CloseBrace
+    } else if same(piece, b"-") {
+        FirstKind::Minus
+    } else {
+        FirstKind::Other
+    }
+}
+
+fn attr_kind(piece: &[u8]) -> FirstKind
+    ensures { result ≡ (if bytes_eq piece.now (codes "#arith.overflow") then FirstKind.OverflowAttr else FirstKind.Other) }
+{
+    if same(piece, b"#arith.overflow") {
+        FirstKind::OverflowAttr
+    } else {
+        FirstKind::Other
+    }
+}
+
+fn number_kind(piece: &[u8]) -> FirstKind
+    ensures { result ≡ (if list_all is_digit piece.now then FirstKind.Digits else FirstKind.Other) }
+{
+    if all_digits(piece) {
+        FirstKind::Digits
+    } else {
+        FirstKind::Other
+    }
+}
+
+#[tactic(auto, unfolding(text_model::specs::FirstWords::is_bare))]
+fn is_bare(piece: &[u8]) -> bool
+    ensures { result ≡ is_bare piece.now }
+{
+    match piece {
+        [] => false,
+        [first, rest @ ..] => starts_bare(*first) && all_bare(rest),
+    }
+}
+
+fn all_bare(piece: &[u8]) -> bool
+    ensures { result ≡ list_all is_bare_byte piece.now }
+{
+    piece.iter().all(|b| is_bare_byte(*b))
+}
+
+fn all_digits(piece: &[u8]) -> bool
+    ensures { result ≡ list_all is_digit piece.now }
+{
+    piece.iter().all(|b| is_digit(*b))
+}

@@ -1,0 +1,9 @@
+pub mod Runs
+pub mod Outcomes
+pub mod Lengths
+pub mod StringLemmas
+pub mod TokenLemmas
+pub mod GapLemmas
+pub mod FaultLemmas
+pub mod Once
+pub mod Spans

@@ -1,0 +1,15 @@
+-- The loop ends where no comma comes next, where a pass does not fit, and goes on with one pass more.
+use Rattle.std.proofs.Common.{arith, length, ◌-◌, ◌+◌}
+use Rattle.grammar_model.proofs.Loops.{no_more, stops_early, one_more}
+use Rattle.pipeline_text.proofs.reader.read_more_passes.Goals as goal
+
+pub returns-then-not-next_fits : goal.returns-then-not-next_fits
+returns-then-not-next_fits c = no_more c.each.invariant (grind arith)
+
+pub returns-in_err-pass : goal.returns-in_err-pass
+returns-in_err-pass c = stops_early c.each.invariant (grind arith) (length c.args.tokens.now - (c.each.counter + 1)) (omega arith)
+    c.in_err-pass.field-0.0 c.in_err-pass.ensures _ c.from_residual-in_err-pass.result c.from_residual-in_err-pass.ensures.1
+
+pub each-preserved : goal.each-preserved
+each-preserved c = rw c.in_ok-push.ensures.items
+    (one_more c.each.invariant (grind arith) (length c.args.tokens.now - (c.each.counter + 1)) (omega arith) c.in_ok-pass.pass c.in_ok-pass.behind.now c.in_ok-pass.ensures)

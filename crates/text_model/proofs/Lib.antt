@@ -1,0 +1,4 @@
+-- The laws of the texts.
+pub mod PhraseLaws
+pub mod FirstLaws
+pub mod OneTree

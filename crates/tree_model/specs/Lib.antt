@@ -1,0 +1,4 @@
+pub mod Joined
+pub mod NameText
+pub mod TypeText
+pub mod AttrText

@@ -1,0 +1,98 @@
+ghost use Rattle.std.specs.Prelude.{◌≡◌, ◌<◌, [], ◌∷◌, ◌++◌, OnOk, flat_map};
+ghost use Rattle.std.specs.List.{list_all};
+ghost use Rattle.tree_model.specs.NameText.{is_letter, is_digit, begins_name, continues_name, is_bare, hex_digit, stands_plain, byte_text, string_text, name_text};
+
+use crate::bytes::{Bytes, NoMemory};
+
+fn is_letter(b: u8) -> bool
+    ensures { result ≡ is_letter b }
+{
+    (65 <= b && b <= 90) || (97 <= b && b <= 122)
+}
+
+fn is_digit(b: u8) -> bool
+    ensures { result ≡ is_digit b }
+{
+    48 <= b && b <= 57
+}
+
+fn begins_name(b: u8) -> bool
+    ensures { result ≡ begins_name b }
+{
+    is_letter(b) || b == b'_'
+}
+
+fn continues_name(b: u8) -> bool
+    ensures { result ≡ continues_name b }
+{
+    is_letter(b) || is_digit(b) || b == b'_' || b == b'$' || b == b'.'
+}
+
+/// Whether the name is a bare identifier.
+pub fn is_bare(name: &[u8]) -> bool
+    ensures { result ≡ is_bare name.now }
+{
+    match name {
+        [first, rest @ ..] => begins_name(*first) && all_continue(rest),
+        [] => false,
+    }
+}
+
+fn all_continue(bytes: &[u8]) -> bool
+    ensures { result ≡ list_all continues_name bytes.now }
+{
+    bytes.iter().all(|b| continues_name(*b))
+}
+
+fn hex_digit(n: u8) -> u8
+    requires { n < 16 }
+    ensures { result ≡ hex_digit n }
+{
+    if n < 10 { 48 + n } else { 55 + n }
+}
+
+fn stands_plain(b: u8) -> bool
+    ensures { result ≡ stands_plain b }
+{
+    32 <= b && b <= 126 && b != b'"'
+}
+
+fn put_string_byte(out: &mut Bytes, b: u8) -> Result<(), NoMemory>
+    ensures { OnOk result (out.new ≡ out.old ++ byte_text b) }
+{
+    if b == b'\\' {
+        return out.put(b"\\\\");
+    }
+    if stands_plain(b) {
+        return out.put_byte(b);
+    }
+    out.put(&[b'\\', hex_digit(b / 16), hex_digit(b % 16)])
+}
+
+/// Appends a text as a string.
+pub fn put_string(out: &mut Bytes, bytes: &[u8]) -> Result<(), NoMemory>
+    ensures { OnOk result (out.new ≡ out.old ++ string_text bytes.now) }
+{
+    out.put_byte(b'"')?;
+    put_string_bytes(out, bytes)?;
+    out.put_byte(b'"')
+}
+
+fn put_string_bytes(out: &mut Bytes, bytes: &[u8]) -> Result<(), NoMemory>
+    ensures { OnOk result (out.new ≡ out.old ++ flat_map byte_text bytes.now) }
+{
+    for b in bytes {
+        put_string_byte(out, *b)?;
+    }
+    Ok(())
+}
+
+/// Appends a name: itself where it is a bare identifier, else as a string.
+pub fn put_name(out: &mut Bytes, name: &[u8]) -> Result<(), NoMemory>
+    ensures { OnOk result (out.new ≡ out.old ++ name_text name.now) }
+{
+    if is_bare(name) {
+        return out.put(name);
+    }
+    put_string(out, name)
+}
