@@ -20,6 +20,7 @@ fn is_on_line(b: u8) -> bool
     b != b'\n'
 }
 
+/// A digit of ASCII.
 #[tactic(auto, unfolding(crate::specs::Bytes::is_digit))]
 pub fn is_digit(b: u8) -> bool
     ensures { result ≡ is_digit b }
@@ -41,6 +42,7 @@ fn is_letter(b: u8) -> bool
     (b >= b'a' && b <= b'z') || (b >= b'A' && b <= b'Z')
 }
 
+/// What a bare identifier begins with.
 #[tactic(auto, unfolding(crate::specs::Bytes::starts_bare))]
 pub fn starts_bare(b: u8) -> bool
     ensures { result ≡ starts_bare b }
@@ -48,6 +50,7 @@ pub fn starts_bare(b: u8) -> bool
     is_letter(b) || b == b'_'
 }
 
+/// What stands in a bare identifier.
 #[tactic(auto, unfolding(crate::specs::Bytes::is_bare_byte))]
 pub fn is_bare_byte(b: u8) -> bool
     ensures { result ≡ is_bare_byte b }

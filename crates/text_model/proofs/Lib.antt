@@ -2,3 +2,4 @@
 pub mod PhraseLaws
 pub mod FirstLaws
 pub mod OneTree
+pub mod PrintedLemmas

@@ -4,3 +4,8 @@ pub mod Phrases
 pub mod FirstGrammar
 pub mod FirstNames
 pub mod FirstText
+pub mod PrintedPlaces
+pub mod PrintedNames
+pub mod PrintedOps
+pub mod Printed
+pub mod PrintedLaws

@@ -1,7 +1,11 @@
-//! The texts of modules: which bytes are the text of which module.
+//! The texts of modules: which bytes are the text of which module, and which bytes a module prints as.
 //!
-//! A crate of definitions. [`first`] has the data that a first text is read as; what it means stands in
-//! `specs/`.
+//! A crate of definitions with their laws. [`first`] has the data that a first text is read as.
 #![tactic(auto)]
 
 pub mod first;
+mod printed;
+mod value_name;
+
+pub use printed::law_empty_module;
+pub use value_name::{Named, ValueName};

@@ -1,0 +1,127 @@
+//! The top call and its laws.
+
+ghost use Rattle.std.specs.Prelude.{◌≡◌, ◌⊎◌, ℕ, ◌^◌, ◌≤◌, List, length, ⊤, Some, None, IfOk, IsErrOf, OnOk, OnErr};
+ghost use Rattle.std.specs.Io.KnownBytes.{IsAtEnd, Keeps};
+ghost use Rattle.edge_kit.specs.Edges.{Rose};
+ghost use Rattle.tool_cli.specs.Replies.{Reply, IsCommand, Out};
+ghost use Rattle.tool_cli.specs.Runs.{IsReply, RepliesTo, TakesAll, StopsEarly, Spares, OneReply};
+
+use crate::edges::{read_input, write_all};
+use crate::prepared::{Prepared, refuse, succeed};
+use crate::status::Status;
+use edge_kit::{Sink, SinkFault, Source, SureSink, SureSource, Words};
+use generic_printer::print_tree;
+use generic_reader::read_first;
+use std::alloc::{AllocError, AllocFailed, Global};
+
+/// Why there is no reply.
+pub enum Stop {
+    ReadFault,
+    NoMemory,
+}
+
+impl From<AllocError> for Stop {
+    ghost use Rattle.std.specs.Prelude.{◌≡◌};
+    ghost use Rattle.tool_cli.specs.declared.run.Stop.TheVariants.{NoMemory};
+
+    ghost from_gives = { λ _ e. e ≡ NoMemory };
+
+    fn from(_error: AllocError) -> Stop {
+        Stop::NoMemory
+    }
+}
+
+/// Reads a module from `input` and prints it on `out`; what refuses it goes to `diag`.
+pub fn run_single<S: Source, K: Sink, E: Sink>(
+    alloc: Global,
+    words: &Words,
+    input: &mut S,
+    out: &mut K,
+    diag: &mut E,
+) -> Status
+    ensures replied { IsReply result → (reply : Reply) × RepliesTo words.now (S.left input.old) reply × (result ≡ reply.status)
+        × TakesAll (K.held out.old) (K.held out.new) (E.held diag.old) (E.held diag.new) reply }
+    ensures ended { (result ≡ Status.Ok) ⊎ (result ≡ Status.Refused) → IsAtEnd (S.left input.new) }
+    ensures read_fault { result ≡ Status.ReadFault → Rose (S.faults input.old) (S.faults input.new)
+        × Spares (K.held out.old) (K.held out.new) (E.held diag.old) (E.held diag.new) }
+    ensures write_fault { result ≡ Status.WriteFault → (reply : Reply) × RepliesTo words.now (S.left input.old) reply
+        × StopsEarly (Rose (K.faults out.old) (K.faults out.new)) (Rose (E.faults diag.old) (E.faults diag.new))
+        (K.held out.old) (K.held out.new) (E.held diag.old) (E.held diag.new) reply }
+    ensures no_memory { result ≡ Status.NoMemory → Spares (K.held out.old) (K.held out.new) (E.held diag.old) (E.held diag.new)
+        ⊎ ((reply : Reply) × RepliesTo words.now (S.left input.old) reply
+        × StopsEarly ⊤ ⊤ (K.held out.old) (K.held out.new) (E.held diag.old) (E.held diag.new) reply) }
+{
+    let reply = match reply_to(alloc, words, input) {
+        Ok(reply) => reply,
+        Err(Stop::ReadFault) => return Status::ReadFault,
+        Err(Stop::NoMemory) => return Status::NoMemory,
+    };
+    match deliver(out, diag, &reply) {
+        Ok(()) => reply.status,
+        Err(SinkFault::Failed) => Status::WriteFault,
+        Err(SinkFault::NoMemory) => Status::NoMemory,
+    }
+}
+
+/// [`run_single`] over edges without faults, which answers no fault.
+pub fn run_sure(
+    alloc: Global,
+    words: &Words,
+    input: &mut SureSource,
+    out: &mut SureSink,
+    diag: &mut SureSink,
+) -> Status
+    ensures reads { result ≡ Status.ReadFault → ⊥ }
+    ensures writes { result ≡ Status.WriteFault → ⊥ }
+    ensures replied { IsReply result → (reply : Reply) × RepliesTo words.now (Some input.old) reply × (result ≡ reply.status)
+        × TakesAll (Some out.old) (Some out.new) (Some diag.old) (Some diag.new) reply }
+{
+    run_single(alloc, words, input, out, diag)
+}
+
+/// At most one reply fits given words and a given input, so the status and both texts are theirs.
+pub fn law_one_reply()
+    ensures { OneReply }
+{}
+
+// The reply to the words and to what the source has left.
+fn reply_to<S: Source>(alloc: Global, words: &Words, input: &mut S) -> Result<Prepared, Stop>
+    ensures reply { IfOk result (λ p. RepliesTo words.now (S.left input.old) p) }
+    ensures ended { IfOk result (λ p. (p.status ≡ Status.Ok) ⊎ (p.status ≡ Status.Refused) → IsAtEnd (S.left input.new)) }
+    ensures cause { IsErrOf result Stop.ReadFault → Rose (S.faults input.old) (S.faults input.new) }
+{
+    if !words.is_empty() {
+        return Ok(refuse(
+            alloc,
+            Status::Usage,
+            "usage: the words are not in the command set",
+        )?);
+    }
+    match read_input(alloc, input)? {
+        None => Ok(refuse(alloc, Status::Limit, "limit: input 16777216")?),
+        Some(text) => Ok(reply_to_text(alloc, text.as_slice())?),
+    }
+}
+
+// The reply to a whole text.
+fn reply_to_text(alloc: Global, text: &[u8]) -> Result<Prepared, AllocError>
+    requires { length text.now ≤ 2 ^ 24 }
+    ensures { (words : List (List ℕ)) → IsCommand words → IfOk result (λ p. Out words text.now p) }
+{
+    match read_first(alloc, text)? {
+        None => refuse(alloc, Status::Refused, "refused: text at 0: NotBuilt"),
+        Some(module) => Ok(succeed(alloc, print_tree(alloc, &module)?)),
+    }
+}
+
+// Writes the text for `out`, and then the text for `diag`.
+fn deliver<K: Sink, E: Sink>(out: &mut K, diag: &mut E, reply: &Prepared) -> Result<(), SinkFault>
+    ensures ok { OnOk result (TakesAll (K.held out.old) (K.held out.new) (E.held diag.old) (E.held diag.new) reply.now) }
+    ensures failed { IsErrOf result SinkFault.Failed
+        → StopsEarly (Rose (K.faults out.old) (K.faults out.new)) (Rose (E.faults diag.old) (E.faults diag.new))
+        (K.held out.old) (K.held out.new) (E.held diag.old) (E.held diag.new) reply.now }
+    ensures stopped { OnErr result (StopsEarly ⊤ ⊤ (K.held out.old) (K.held out.new) (E.held diag.old) (E.held diag.new) reply.now) }
+{
+    write_all(out, reply.out.as_slice())?;
+    write_all(diag, reply.diag.as_slice())
+}

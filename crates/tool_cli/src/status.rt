@@ -1,0 +1,36 @@
+//! The exit status of the program.
+
+ghost use Rattle.std.specs.Prelude.{◌≡◌};
+
+/// How a run ended. The exit status of each is its place in this list, counted from 0.
+#[derive(Clone, Copy, PartialEq, Eq, Debug)]
+pub enum Status {
+    /// The module was printed.
+    Ok,
+    /// The words are not in the command set.
+    Usage,
+    /// The text is no module that the program takes.
+    Refused,
+    /// A pass failed.
+    PassFailed,
+    /// The input could not be read.
+    ReadFault,
+    /// An output could not be written.
+    WriteFault,
+    /// There was no memory.
+    NoMemory,
+    /// The input passes a limit.
+    Limit,
+}
+
+impl Status {
+    ghost use Rattle.std.specs.Prelude.{◌≡◌};
+    ghost use Rattle.tool_cli.specs.Codes.{code_of};
+
+    /// The exit status of the process.
+    pub fn code(self) -> u8
+        ensures { result ≡ code_of self }
+    {
+        self as u8
+    }
+}
