@@ -4,6 +4,7 @@
 mod scan;
 
 pub use scan::{is_bare_byte, is_digit, starts_bare};
+
 #[cfg(test)]
 mod tests;
 

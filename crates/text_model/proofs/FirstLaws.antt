@@ -64,7 +64,7 @@ block_laws = then_laws (mapped_laws or_no_words (maybe_laws head_laws refl)) (th
 signature_laws : IsSyntax signature
 unfolding signature name
 signature_laws = then_laws (listed_laws (is kind.Comma) (a kind.Comma) refl (token_laws (is kind.I32) (a kind.I32) refl) refl (apart _ _ refl))
-  (phrase_before signature_goes_on name_laws) (apart _ _ refl)
+    (phrase_before signature_goes_on name_laws) (apart _ _ refl)
 
 func_inside_laws : IsSyntax func_inside
 unfolding func_inside signature name block head arguments argument line ending value constant integer addition pair flags
@@ -77,7 +77,7 @@ func_laws = phrase_before func_opens (phrase_behind region_closes func_inside_la
 body_laws : IsSyntax body
 unfolding body func func_inside signature name block head arguments argument line ending value constant integer addition pair flags
 body_laws = then_laws (maybe_laws (phrase_behind head_closes (token_laws (is kind.Label) (a kind.Label) refl) (apart _ _ refl)) refl)
-  (many_laws func_laws refl (apart _ _ refl)) (apart _ _ refl)
+    (many_laws func_laws refl (apart _ _ refl)) (apart _ _ refl)
 
 pub file_laws : IsSyntax file
 unfolding file body func func_inside signature name block head arguments argument line ending value constant integer addition pair flags

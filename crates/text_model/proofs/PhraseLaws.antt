@@ -15,7 +15,7 @@ use Rattle.text_model.specs.Phrases.{kind_at, Lines, place, is, expects, led_by,
 
 abbrev pub every : List FirstKind
 every = Module ∷ Func ∷ Constant ∷ Sum ∷ Return ∷ NameText ∷ FunctionType ∷ SymName ∷ ValueKey ∷ OverflowFlags ∷ NoneFlag ∷ I32 ∷ OverflowAttr ∷ ValueName ∷ Label ∷ Digits
-  ∷ Open ∷ Close ∷ OpenBrace ∷ CloseBrace ∷ Less ∷ Greater ∷ Comma ∷ Colon ∷ Equals ∷ Minus ∷ Arrow ∷ Other ∷ []
+    ∷ Open ∷ Close ∷ OpenBrace ∷ CloseBrace ∷ Less ∷ Greater ∷ Comma ∷ Colon ∷ Equals ∷ Minus ∷ Arrow ∷ Other ∷ []
 
 has_every : HasEvery place every
 has_every Module = refl
@@ -115,8 +115,8 @@ second_again w (Ok x) = refl
 second_again w (Err rest) = refl
 
 led_step : {X : Type 0} (ks : List FirstKind) (s : Lines X) → ((ts : List Word) → (expects ks ts >>= s.read) ≡ (led_by ks s).read ts)
-  → (r : Result (Word × List Word) (List Word))
-  → ((r >>= λ x. expects ks x.1) >>= s.read) ≡ ((r >>= λ x. (led_by ks s).read x.1 >>= behind_word x.0) >>= second)
+    → (r : Result (Word × List Word) (List Word))
+    → ((r >>= λ x. expects ks x.1) >>= s.read) ≡ ((r >>= λ x. (led_by ks s).read x.1 >>= behind_word x.0) >>= second)
 led_step ks s below (Ok x) = below x.1 ∙ second_again x.0 ((led_by ks s).read x.1)
 led_step ks s below (Err rest) = refl
 
@@ -138,12 +138,12 @@ first_again (Ok x) = refl
 first_again (Err rest) = refl
 
 token_step : {X : Type 0} (ks : List FirstKind) (x : X) (r : Result (Word × List Word) (List Word))
-  → ((r >>= λ y. expects ks y.1) >>= with_rest x) ≡ (((r >>= before_word x) >>= first) >>= ends ks)
+    → ((r >>= λ y. expects ks y.1) >>= with_rest x) ≡ (((r >>= before_word x) >>= first) >>= ends ks)
 token_step ks x (Ok y) = refl
 token_step ks x (Err rest) = refl
 
 closed_step : {X : Type 0} (k : FirstKind) (ks : List FirstKind) (r : Result (X × List Word) (List Word))
-  → (r >>= ends (k ∷ ks)) ≡ (((r >>= λ x. token_at kind_at (is k) x.1 >>= before_word x.0) >>= first) >>= ends ks)
+    → (r >>= ends (k ∷ ks)) ≡ (((r >>= λ x. token_at kind_at (is k) x.1 >>= before_word x.0) >>= first) >>= ends ks)
 closed_step k ks (Ok x) = token_step ks x.0 (token_at kind_at (is k) x.1)
 closed_step k ks (Err rest) = refl
 

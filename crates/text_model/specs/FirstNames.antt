@@ -59,7 +59,7 @@ maker_resolves text scope (Sum left right flags) = in_scope text scope left && i
 abbrev pub lines_resolve : List ℕ → List Word → List Line → Word → Bool
 lines_resolve text scope [] answer = in_scope text scope answer
 lines_resolve text scope (line ∷ lines) answer =
-  maker_resolves text scope line.maker && (not (in_scope text scope line.name) && lines_resolve text (scope ++ line.name ∷ []) lines answer)
+    maker_resolves text scope line.maker && (not (in_scope text scope line.name) && lines_resolve text (scope ++ line.name ∷ []) lines answer)
 
 -- no argument has the name of one in scope
 abbrev pub args_resolve : List ℕ → List Word → List Word → Bool
@@ -101,7 +101,7 @@ number_of text scope w = unwrap_or (place_of text scope w) 0
 -- an operation of one name, with its results, operands and properties alone
 abbrev pub plain_op : List ℕ → List (ℕ × TypeTree) → List ℕ → List (List ℕ × AttrTree) → OpTree
 plain_op name results operands props =
-  roll-OpTree (record { name = name; results = results; operands = operands; props = props; attrs = []; regions = []; successors = [] })
+    roll-OpTree (record { name = name; results = results; operands = operands; props = props; attrs = []; regions = []; successors = [] })
 
 -- the flags of an addition, where they are written
 abbrev pub flags_of : Bool → List (List ℕ × AttrTree)
@@ -111,9 +111,9 @@ flags_of true = (codes "overflowFlags", attr.Dialect (codes "arith.overflow") (c
 -- the operation that makes the next value
 abbrev pub maker_op : List ℕ → List Word → Maker → OpTree
 maker_op text scope (Constant negative digits) =
-  plain_op (codes "arith.constant") ((length scope, i32) ∷ []) [] ((codes "value", attr.Int (signed negative (decimal_value (bytes_of text digits))) i32) ∷ [])
+    plain_op (codes "arith.constant") ((length scope, i32) ∷ []) [] ((codes "value", attr.Int (signed negative (decimal_value (bytes_of text digits))) i32) ∷ [])
 maker_op text scope (Sum left right flags) =
-  plain_op (codes "arith.addi") ((length scope, i32) ∷ []) (number_of text scope left ∷ number_of text scope right ∷ []) (flags_of flags)
+    plain_op (codes "arith.addi") ((length scope, i32) ∷ []) (number_of text scope left ∷ number_of text scope right ∷ []) (flags_of flags)
 
 -- the operations of the lines, and the return
 abbrev pub line_ops : List ℕ → List Word → List Line → Word → List OpTree
@@ -131,11 +131,20 @@ block_tree text f = roll-BlockTree (record { label = 0; args = numbered 0 f.args
 
 abbrev pub signature_props : List ℕ → FirstFunc → List (List ℕ × AttrTree)
 signature_props text f =
-  (codes "function_type", attr.OfType (type.Func (replicate (length f.inputs) i32) (i32 ∷ []))) ∷ (codes "sym_name", attr.Str (name_of text f)) ∷ []
+    (codes "function_type", attr.OfType (type.Func (replicate (length f.inputs) i32) (i32 ∷ []))) ∷ (codes "sym_name", attr.Str (name_of text f)) ∷ []
 
 abbrev pub func_tree : List ℕ → FirstFunc → FuncTree
-func_tree text f = record { op = roll-OpTree (record { name = codes "func.func"; results = []; operands = []; props = signature_props text f;
-  attrs = []; regions = roll-RegionTree (record { blocks = block_tree text f ∷ [] }) ∷ []; successors = [] }) }
+func_tree text f = record {
+  op = roll-OpTree (record {
+    name = codes "func.func";
+    results = [];
+    operands = [];
+    props = signature_props text f;
+    attrs = [];
+    regions = roll-RegionTree (record { blocks = block_tree text f ∷ [] }) ∷ [];
+    successors = [];
+  });
+}
 
 abbrev pub module_tree : List ℕ → List FirstFunc → ModuleTree
 module_tree text fs = record { props = []; attrs = []; funcs = map (func_tree text) fs }

@@ -26,41 +26,41 @@ inside piece = between piece 1 (length piece - 1)
 -- the kind of a string literal
 unfoldable pub text_kind : List ℕ → FirstKind
 text_kind piece =
-  if bytes_eq (inside piece) (codes "builtin.module") then Module else
-  if bytes_eq (inside piece) (codes "func.func") then Func else
-  if bytes_eq (inside piece) (codes "arith.constant") then Constant else
-  if bytes_eq (inside piece) (codes "arith.addi") then Sum else
-  if bytes_eq (inside piece) (codes "func.return") then Return else
-  if is_bare (inside piece) then NameText else Other
+    if bytes_eq (inside piece) (codes "builtin.module") then Module else
+    if bytes_eq (inside piece) (codes "func.func") then Func else
+    if bytes_eq (inside piece) (codes "arith.constant") then Constant else
+    if bytes_eq (inside piece) (codes "arith.addi") then Sum else
+    if bytes_eq (inside piece) (codes "func.return") then Return else
+    if is_bare (inside piece) then NameText else Other
 
 -- the kind of a bare identifier
 unfoldable pub bare_kind : List ℕ → FirstKind
 bare_kind piece =
-  if bytes_eq piece (codes "i32") then I32 else
-  if bytes_eq piece (codes "value") then ValueKey else
-  if bytes_eq piece (codes "overflowFlags") then OverflowFlags else
-  if bytes_eq piece (codes "none") then NoneFlag else
-  if bytes_eq piece (codes "function_type") then FunctionType else
-  if bytes_eq piece (codes "sym_name") then SymName else Other
+    if bytes_eq piece (codes "i32") then I32 else
+    if bytes_eq piece (codes "value") then ValueKey else
+    if bytes_eq piece (codes "overflowFlags") then OverflowFlags else
+    if bytes_eq piece (codes "none") then NoneFlag else
+    if bytes_eq piece (codes "function_type") then FunctionType else
+    if bytes_eq piece (codes "sym_name") then SymName else Other
 
 -- the kind of a bracket or of `-`
 unfoldable pub bracket_kind : List ℕ → FirstKind
 bracket_kind piece =
-  if bytes_eq piece (codes "<") then Less else
-  if bytes_eq piece (codes ">") then Greater else
-  if bytes_eq piece (codes "{") then OpenBrace else
-  if bytes_eq piece (codes "}") then CloseBrace else
-  if bytes_eq piece (codes "-") then Minus else Other
+    if bytes_eq piece (codes "<") then Less else
+    if bytes_eq piece (codes ">") then Greater else
+    if bytes_eq piece (codes "{") then OpenBrace else
+    if bytes_eq piece (codes "}") then CloseBrace else
+    if bytes_eq piece (codes "-") then Minus else Other
 
 -- the kind of a sign
 unfoldable pub sign_kind : List ℕ → FirstKind
 sign_kind piece =
-  if bytes_eq piece (codes "(") then Open else
-  if bytes_eq piece (codes ")") then Close else
-  if bytes_eq piece (codes ":") then Colon else
-  if bytes_eq piece (codes "=") then Equals else
-  if bytes_eq piece (codes "->") then Arrow else
-  if bytes_eq piece (codes ",") then Comma else bracket_kind piece
+    if bytes_eq piece (codes "(") then Open else
+    if bytes_eq piece (codes ")") then Close else
+    if bytes_eq piece (codes ":") then Colon else
+    if bytes_eq piece (codes "=") then Equals else
+    if bytes_eq piece (codes "->") then Arrow else
+    if bytes_eq piece (codes ",") then Comma else bracket_kind piece
 
 -- the kind of a token with these bytes
 unfoldable pub kind_of : TokenKind → List ℕ → FirstKind

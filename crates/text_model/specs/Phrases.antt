@@ -7,7 +7,6 @@ use Rattle.text_model.specs.declared.first.Word.{Word}
 
 infixr 6 ◌▸▸◌
 infixl 7 ◌◂◂◌
-
 -- the kind of a word
 abbrev pub kind_at : Word → FirstKind
 kind_at w = w.kind

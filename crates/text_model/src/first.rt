@@ -75,7 +75,10 @@ pub struct Word {
 #[derive(Clone, Copy, Debug)]
 pub enum Maker {
     /// An `arith.constant` of digits, with a `-` before them or without.
-    Constant { negative: bool, digits: Word },
+    Constant {
+        negative: bool,
+        digits: Word,
+    },
     /// An `arith.addi` of two values, with its flags written or not.
     Sum {
         left: Word,

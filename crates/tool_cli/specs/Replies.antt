@@ -33,6 +33,6 @@ pub data Out (words : List (List ℕ)) (bytes : List ℕ) : Reply → Type 0 whe
   no_command : (IsCommand words → ⊥) → Out words bytes (refusal Usage (codes "usage: the words are not in the command set"))
   long_input : IsCommand words → input_limit < length bytes → Out words bytes (refusal Limit (codes "limit: input 16777216"))
   no_module : IsCommand words → length bytes ≤ input_limit → ((tree : ModuleTree) → IsFirstText bytes tree → ⊥)
-    → Out words bytes (refusal Refused (codes "refused: text at 0: NotBuilt"))
+      → Out words bytes (refusal Refused (codes "refused: text at 0: NotBuilt"))
   a_module : (tree : ModuleTree) → IsCommand words → length bytes ≤ input_limit → IsFirstText bytes tree
-    → Out words bytes (printed tree)
+      → Out words bytes (printed tree)

@@ -6,7 +6,7 @@ pub reads-init : goal.reads-init
 reads-init g c = record {
   consumed = read_none _ _ c.new-text.ensures.items;
   later = omega arith;
-  turns = omega arith
+  turns = omega arith;
 }
 
 pub returns-then-len-gt-MAX_INPUT-clause-long : goal.returns-then-len-gt-MAX_INPUT-clause-long
@@ -20,7 +20,7 @@ pub reads-preserved : goal.reads-preserved
 reads-preserved g c = record {
   consumed = read_more _ _ _ _ _ _ c.reads.invariant.consumed c.in-Ok.ensures.bytes.0 c.in_ok-extend_from_slice.ensures.items;
   later = omega (arith, c.in-Ok.ensures.cause.later);
-  turns = turn_grows _ _ _ _ _ c.reads.invariant.turns c.if-count-eq0.false c.in-Ok.ensures.bound.0 c.in_ok-extend_from_slice.ensures.items
+  turns = turn_grows _ _ _ _ _ c.reads.invariant.turns c.if-count-eq0.false c.in-Ok.ensures.bound.0 c.in_ok-extend_from_slice.ensures.items;
 }
 
 pub returns-clause-long : goal.returns-clause-long

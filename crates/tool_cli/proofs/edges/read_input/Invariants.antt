@@ -7,5 +7,5 @@ abbrev pub invariant-reads : goal.invariant-reads
 invariant-reads g l = record {
   consumed : Consumes (g.S.Source.left l.fn.input) (g.S.Source.left l.input) l.text.items;
   later : g.S.Source.faults l.fn.input ≤ g.S.Source.faults l.input;
-  turns : l.counter ≤ length l.text.items
+  turns : l.counter ≤ length l.text.items;
 }

@@ -9,5 +9,5 @@ pub writes-preserved : goal.writes-preserved
 writes-preserved g c = record {
   taken = write_more _ _ _ _ _ _ c.writes.invariant.taken c.in_ok-at.ensures.held;
   later = omega (arith, c.writes.invariant.later, c.in_ok-at.ensures.cause.later);
-  within = omega (arith, c.in_ok-at.ensures.takes.0)
+  within = omega (arith, c.in_ok-at.ensures.takes.0);
 }

@@ -7,7 +7,7 @@ abbrev pub invariant-writes : goal.invariant-writes
 invariant-writes g l = record {
   taken : Appends (g.K.Sink.held l.fn.sink) (g.K.Sink.held l.sink) (take l.at l.bytes);
   later : g.K.Sink.faults l.fn.sink ≤ g.K.Sink.faults l.sink;
-  within : l.at ≤ length l.bytes
+  within : l.at ≤ length l.bytes;
 }
 
 abbrev pub decreases-writes : goal.decreases-writes
