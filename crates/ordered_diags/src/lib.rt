@@ -1,0 +1,13 @@
+//! Lines of diagnostics that come from many workers, in one order.
+#![tactic(auto)]
+
+mod diag;
+mod laws;
+mod merging;
+
+pub use diag::{Diag, NoMemory};
+pub use laws::{law_lines_of_a_failure, law_one_order};
+pub use merging::merge;
+
+#[cfg(test)]
+mod tests;
