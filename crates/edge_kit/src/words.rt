@@ -1,6 +1,6 @@
 //! The words of a command line.
 
-ghost use Rattle.std.specs.Prelude.{◌≡◌, ◌↔◌, [], ◌∷◌, ◌++◌, OnOk, OnErr, IsTrue};
+ghost use Rattle.std.specs.Prelude.{◌≡◌, ◌↔◌, ℕ, List, [], ◌∷◌, ◌++◌, IfNone, IfSome, OnOk, OnErr, IsTrue};
 
 use crate::NoMemory;
 use std::alloc::{AllocError, Global};
@@ -35,6 +35,17 @@ impl Words {
         ensures { IsTrue result ↔ (self.now ≡ []) }
     {
         self.words.is_empty()
+    }
+
+    /// The bytes of the one word, or none where there are several or no words.
+    pub fn only(&self) -> Option<&[u8]>
+        ensures one { IfSome result (λ word. self.now ≡ word.now ∷ []) }
+        ensures none { IfNone result ((word : List ℕ) → self.now ≡ word ∷ [] → ⊥) }
+    {
+        match self.words.as_slice() {
+            [word] => Some(word.as_slice()),
+            _ => None,
+        }
     }
 
     /// Puts a copy of `word` last.

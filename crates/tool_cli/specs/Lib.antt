@@ -1,4 +1,6 @@
 -- What the top call answers.
 pub mod Codes
+pub mod Commands
+pub mod Passes
 pub mod Replies
 pub mod Runs

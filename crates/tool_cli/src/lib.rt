@@ -4,7 +4,9 @@
 //! the table of replies in `specs/Replies.antt`.
 #![tactic(auto)]
 
+pub mod command;
 mod edges;
+mod passes;
 mod prepared;
 pub mod run;
 pub mod status;

@@ -3,10 +3,13 @@
 ghost use Rattle.std.specs.Prelude.{◌≡◌, ◌⊎◌, ℕ, ◌^◌, ◌≤◌, List, length, ⊤, Some, None, IfOk, IsErrOf, OnOk, OnErr};
 ghost use Rattle.std.specs.Io.KnownBytes.{IsAtEnd, Keeps};
 ghost use Rattle.edge_kit.specs.Edges.{Rose};
-ghost use Rattle.tool_cli.specs.Replies.{Reply, IsCommand, Out};
+ghost use Rattle.tool_cli.specs.Replies.{Reply, Out};
+ghost use Rattle.tool_cli.specs.Commands.{command_of};
 ghost use Rattle.tool_cli.specs.Runs.{IsReply, RepliesTo, TakesAll, StopsEarly, Spares, OneReply};
 
+use crate::command::{Command, command_of};
 use crate::edges::{read_input, write_all};
+use crate::passes::made_by;
 use crate::prepared::{Prepared, refuse, succeed};
 use crate::status::Status;
 use edge_kit::{Sink, SinkFault, Source, SureSink, SureSource, Words};
@@ -90,27 +93,30 @@ fn reply_to<S: Source>(alloc: Global, words: &Words, input: &mut S) -> Result<Pr
     ensures ended { IfOk result (λ p. (p.status ≡ Status.Ok) ⊎ (p.status ≡ Status.Refused) → IsAtEnd (S.left input.new)) }
     ensures cause { IsErrOf result Stop.ReadFault → Rose (S.faults input.old) (S.faults input.new) }
 {
-    if !words.is_empty() {
+    let Some(command) = command_of(words) else {
         return Ok(refuse(
             alloc,
             Status::Usage,
             "usage: the words are not in the command set",
         )?);
-    }
+    };
     match read_input(alloc, input)? {
         None => Ok(refuse(alloc, Status::Limit, "limit: input 16777216")?),
-        Some(text) => Ok(reply_to_text(alloc, text.as_slice())?),
+        Some(text) => Ok(reply_to_text(alloc, command, text.as_slice())?),
     }
 }
 
-// The reply to a whole text.
-fn reply_to_text(alloc: Global, text: &[u8]) -> Result<Prepared, AllocError>
+// The reply of a command to a whole text.
+fn reply_to_text(alloc: Global, command: Command, text: &[u8]) -> Result<Prepared, AllocError>
     requires { length text.now ≤ 2 ^ 24 }
-    ensures { (words : List (List ℕ)) → IsCommand words → IfOk result (λ p. Out words text.now p) }
+    ensures { (words : List (List ℕ)) → command_of words ≡ Some command → IfOk result (λ p. Out words text.now p) }
 {
     match read_first(alloc, text)? {
         None => refuse(alloc, Status::Refused, "refused: text at 0: NotBuilt"),
-        Some(module) => Ok(succeed(alloc, print_tree(alloc, &module)?)),
+        Some(source) => {
+            let made = made_by(alloc, command, source)?;
+            Ok(succeed(alloc, print_tree(alloc, &made)?))
+        }
     }
 }
 

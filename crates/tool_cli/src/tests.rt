@@ -189,6 +189,99 @@ fn a_word_is_a_faulty_command_line(rt: HostRuntime) -> Result<(), Fail> {
     Ok(())
 }
 
+const CONVERT: &str = "--pass-pipeline=builtin.module(convert-arith-to-llvm)";
+
+const INC_CONVERTED: &str = "\"builtin.module\"() ({
+  \"func.func\"() <{function_type = (i32) -> i32, sym_name = \"inc\"}> ({
+  ^bb0(%arg0: i32):
+    %0 = \"llvm.mlir.constant\"() <{value = 1 : i32}> : () -> i32
+    %1 = \"llvm.add\"(%arg0, %0) <{overflowFlags = #llvm.overflow<none>}> : (i32, i32) -> i32
+    \"func.return\"(%1) : (i32) -> ()
+  }) : () -> ()
+}) : () -> ()
+";
+
+#[test]
+fn the_pass_converts_constants_and_additions(rt: HostRuntime) -> Result<(), Fail> {
+    let Answer { status, out, diag } = run_on(rt.alloc(), CONVERT, INC)?;
+    assert_eq!(rt; status, Status::Ok);
+    assert_eq!(rt; out.bytes(), INC_CONVERTED.as_bytes());
+    assert_eq!(rt; diag.bytes(), b"".as_slice());
+    let Answer { status, out, .. } = run_on(rt.alloc(), "--pass-pipeline=builtin.module()", INC)?;
+    assert_eq!(rt; status, Status::Ok);
+    assert_eq!(rt; out.bytes(), INC_PRINTED.as_bytes());
+    Ok(())
+}
+
+const THREE: &str = "\"builtin.module\"() ({
+  \"func.func\"() <{function_type = () -> i32, sym_name = \"one\"}> ({
+    %0 = \"arith.constant\"() <{value = 1 : i32}> : () -> i32
+    \"func.return\"(%0) : (i32) -> ()
+  }) : () -> ()
+  \"func.func\"() <{function_type = (i32) -> i32, sym_name = \"same\"}> ({
+  ^bb0(%arg0: i32):
+    \"func.return\"(%arg0) : (i32) -> ()
+  }) : () -> ()
+  \"func.func\"() <{function_type = (i32) -> i32, sym_name = \"twice\"}> ({
+  ^bb0(%arg0: i32):
+    %0 = \"arith.addi\"(%arg0, %arg0) : (i32, i32) -> i32
+    \"func.return\"(%0) : (i32) -> ()
+  }) : () -> ()
+}) : () -> ()
+";
+
+const THREE_CONVERTED: &str = "\"builtin.module\"() ({
+  \"func.func\"() <{function_type = () -> i32, sym_name = \"one\"}> ({
+    %0 = \"llvm.mlir.constant\"() <{value = 1 : i32}> : () -> i32
+    \"func.return\"(%0) : (i32) -> ()
+  }) : () -> ()
+  \"func.func\"() <{function_type = (i32) -> i32, sym_name = \"same\"}> ({
+  ^bb0(%arg0: i32):
+    \"func.return\"(%arg0) : (i32) -> ()
+  }) : () -> ()
+  \"func.func\"() <{function_type = (i32) -> i32, sym_name = \"twice\"}> ({
+  ^bb0(%arg0: i32):
+    %0 = \"llvm.add\"(%arg0, %arg0) : (i32, i32) -> i32
+    \"func.return\"(%0) : (i32) -> ()
+  }) : () -> ()
+}) : () -> ()
+";
+
+#[test]
+fn functions_without_arith_stand_as_they_were(rt: HostRuntime) -> Result<(), Fail> {
+    let Answer { status, out, .. } = run_on(rt.alloc(), CONVERT, THREE)?;
+    assert_eq!(rt; status, Status::Ok);
+    assert_eq!(rt; out.bytes(), THREE_CONVERTED.as_bytes());
+    Ok(())
+}
+
+// The word without its character at `at`, or with another one there.
+fn word_away(alloc: Global, word: &str, at: usize, with: &str) -> Result<String, AllocError> {
+    let mut changed = String::new(alloc);
+    for (index, c) in word.chars().enumerate() {
+        if index == at {
+            changed.push_str(with)?;
+        } else {
+            changed.push(c)?;
+        }
+    }
+    Ok(changed)
+}
+
+#[test]
+fn words_one_character_away_are_faulty(rt: HostRuntime) -> Result<(), Fail> {
+    for word in ["--pass-pipeline=builtin.module()", CONVERT] {
+        for at in 0..word.len() {
+            for with in ["", "*"] {
+                let changed = word_away(rt.alloc(), word, at, with)?;
+                let Answer { status, .. } = run_on(rt.alloc(), changed.as_str(), INC)?;
+                assert_eq!(rt; status, Status::Usage, "{changed}");
+            }
+        }
+    }
+    Ok(())
+}
+
 #[test]
 fn a_byte_over_the_limit_is_told(rt: HostRuntime) -> Result<(), Fail> {
     let mut input = SureSource::new(vec![in rt.alloc(); b' '; (1 << 24) + 1]?);

@@ -1,0 +1,3 @@
+pub mod TypeLaws
+pub mod FirstLemmas
+pub mod FunctionLemmas

@@ -1,0 +1,12 @@
+pub mod Types
+pub mod Trees
+pub mod Rows
+pub mod ArithRows
+pub mod Targets
+pub mod Casts
+pub mod Derivation
+pub mod Conversion
+pub mod OperationNames
+pub mod ArithPass
+pub mod FirstFunctions
+pub mod Promises

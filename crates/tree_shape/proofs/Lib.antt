@@ -1,0 +1,3 @@
+pub mod AlikeLaws
+pub mod NumbersLaws
+pub mod RenamingLaws

@@ -1,0 +1,173 @@
+use crate::same_shape;
+use sqlite_items::Items;
+use std::alloc::Global;
+use std::process::Abort;
+use std::test::Fail;
+use tree_model::{
+    AttrTree, BlockList, BlockTree, Bytes, FuncTree, IdList, NoMemory, OpList, OpTree, RegionTree,
+    TypeTree,
+};
+
+fn one<T: Drop>(alloc: Global, item: T) -> Result<Items<T>, NoMemory> {
+    let mut items = Items::new(alloc);
+    items.push(item)?;
+    Ok(items)
+}
+
+fn ids(alloc: Global, numbers: &[u32]) -> Result<IdList, NoMemory> {
+    Items::from_slice(alloc, numbers)
+}
+
+fn plain_op(alloc: Global, name: &str, operands: &[u32]) -> Result<OpTree, NoMemory> {
+    Ok(OpTree {
+        name: Bytes::from_slice(alloc, name.as_bytes())?,
+        results: Items::new(alloc),
+        operands: ids(alloc, operands)?,
+        props: Items::new(alloc),
+        attrs: Items::new(alloc),
+        regions: Items::new(alloc),
+        successors: Items::new(alloc),
+    })
+}
+
+/// The sum of two values, with an attribute.
+fn sum(
+    alloc: Global,
+    name: &str,
+    value: (u32, u32),
+    operands: &[u32],
+    flag: i64,
+) -> Result<OpTree, NoMemory> {
+    let mut sum = plain_op(alloc, name, operands)?;
+    sum.results = one(alloc, (value.0, TypeTree::Int(value.1)))?;
+    let flag = AttrTree::Int(flag, TypeTree::Int(64));
+    sum.attrs = one(alloc, (Bytes::from_slice(alloc, b"flag")?, flag))?;
+    Ok(sum)
+}
+
+fn block(alloc: Global, label: u32, args: &[u32], ops: OpList) -> Result<BlockTree, NoMemory> {
+    let mut block = BlockTree {
+        label,
+        args: Items::new(alloc),
+        ops,
+    };
+    for arg in args {
+        block.args.push((*arg, TypeTree::Int(32)))?;
+    }
+    Ok(block)
+}
+
+fn func(alloc: Global, blocks: BlockList) -> Result<FuncTree, NoMemory> {
+    let mut op = plain_op(alloc, "func.func", &[])?;
+    op.regions = one(alloc, RegionTree { blocks })?;
+    Ok(FuncTree { op })
+}
+
+/// A function whose first block adds its two arguments and passes the sum to the second, which
+/// returns it. The values are the two arguments, the sum, its two operands, what is passed on, the
+/// second block's argument and what is returned. The labels are that of the first block, the one
+/// that is branched to, and that of the second block.
+fn sample(alloc: Global, v: [u32; 8], labels: [u32; 3]) -> Result<FuncTree, NoMemory> {
+    let mut ops = one(
+        alloc,
+        sum(alloc, "arith.addi", (v[2], 32), &[v[3], v[4]], 4)?,
+    )?;
+    let mut branch = plain_op(alloc, "cf.br", &[v[5]])?;
+    branch.successors = ids(alloc, &[labels[1]])?;
+    ops.push(branch)?;
+    let last = one(alloc, plain_op(alloc, "func.return", &[v[7]])?)?;
+    let mut blocks = one(alloc, block(alloc, labels[0], &[v[0], v[1]], ops)?)?;
+    blocks.push(block(alloc, labels[2], &[v[6]], last)?)?;
+    func(alloc, blocks)
+}
+
+/// Both ways round, the answer is `want`.
+fn compares(
+    rt: &impl Abort,
+    alloc: Global,
+    a: &FuncTree,
+    b: &FuncTree,
+    want: bool,
+) -> Result<(), NoMemory> {
+    let there = same_shape(alloc, a, b)?;
+    let back = same_shape(alloc, b, a)?;
+    assert_eq!(rt; there, want);
+    assert_eq!(rt; back, want);
+    Ok(())
+}
+
+const VALUES: [u32; 8] = [0, 1, 2, 0, 1, 2, 3, 3];
+
+const LABELS: [u32; 3] = [0, 1, 1];
+
+#[test]
+fn values_are_renamed_one_to_one(rt: HostRuntime) -> Result<(), Fail> {
+    let alloc = rt.alloc();
+    let base = sample(alloc, VALUES, LABELS)?;
+    let cases = [
+        (VALUES, true),
+        ([5, 9, 7, 5, 9, 7, 4, 4], true),
+        // the names of two pairs of values are exchanged
+        ([1, 0, 3, 1, 0, 3, 2, 2], true),
+        // the operands are swapped
+        ([0, 1, 2, 1, 0, 2, 3, 3], false),
+        // two values are made one
+        ([0, 0, 2, 0, 0, 2, 3, 3], false),
+        ([0, 1, 1, 0, 1, 1, 3, 3], false),
+        // another value is passed on, and another is returned
+        ([0, 1, 2, 0, 1, 0, 3, 3], false),
+        ([0, 1, 2, 0, 1, 2, 3, 2], false),
+    ];
+    for (values, want) in cases {
+        compares(&rt, alloc, &base, &sample(alloc, values, LABELS)?, want)?;
+    }
+    Ok(())
+}
+
+#[test]
+fn labels_are_renamed_one_to_one(rt: HostRuntime) -> Result<(), Fail> {
+    let alloc = rt.alloc();
+    let base = sample(alloc, VALUES, LABELS)?;
+    let cases = [
+        ([8, 3, 3], true),
+        ([1, 0, 0], true),
+        // both blocks have one label
+        ([1, 1, 1], false),
+        // the first block branches to itself
+        ([0, 0, 1], false),
+    ];
+    for (labels, want) in cases {
+        compares(&rt, alloc, &base, &sample(alloc, VALUES, labels)?, want)?;
+    }
+    Ok(())
+}
+
+/// A function of one block with this sum in it so many times.
+fn sums(
+    alloc: Global,
+    name: &str,
+    width: u32,
+    flag: i64,
+    times: usize,
+) -> Result<FuncTree, NoMemory> {
+    let mut ops = Items::new(alloc);
+    for _ in 0..times {
+        ops.push(sum(alloc, name, (1, width), &[0, 0], flag)?)?;
+    }
+    func(alloc, one(alloc, block(alloc, 0, &[0], ops)?)?)
+}
+
+#[test]
+fn names_types_attributes_and_operations_count(rt: HostRuntime) -> Result<(), Fail> {
+    let alloc = rt.alloc();
+    let base = sums(alloc, "arith.addi", 32, 4, 1)?;
+    let other_name = sums(alloc, "arith.muli", 32, 4, 1)?;
+    compares(&rt, alloc, &base, &other_name, false)?;
+    let other_type = sums(alloc, "arith.addi", 64, 4, 1)?;
+    compares(&rt, alloc, &base, &other_type, false)?;
+    let other_attribute = sums(alloc, "arith.addi", 32, 5, 1)?;
+    compares(&rt, alloc, &base, &other_attribute, false)?;
+    let one_more = sums(alloc, "arith.addi", 32, 4, 2)?;
+    compares(&rt, alloc, &base, &one_more, false)?;
+    Ok(())
+}
