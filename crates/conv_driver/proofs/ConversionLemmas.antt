@@ -1,9 +1,9 @@
 -- Functions whose operations are swapped by the rows of arith are converted.
 use Rattle.std.proofs.Common.{◌≡◌, ℕ, List, [], ◌∷◌, map, Result, Ok, Err, refl, sym, ap, ◌∙◌, subst, IfOk}
 use Rattle.std.specs.Prelude.{codes, unwrap_or}
-use Rattle.tree_model.specs.declared.op_tree.OpTree.{OpTree, out-OpTree, roll-OpTree, out-roll-OpTree}
-use Rattle.tree_model.specs.declared.op_tree.BlockTree.{BlockTree, roll-BlockTree, out-roll-BlockTree}
-use Rattle.tree_model.specs.declared.op_tree.RegionTree.{RegionTree, roll-RegionTree, out-roll-RegionTree}
+use Rattle.tree_model.specs.declared.op_tree.OpTree.{OpTree, roll-OpTree, out-roll-OpTree}
+use Rattle.tree_model.specs.declared.op_tree.BlockTree.{out-roll-BlockTree}
+use Rattle.tree_model.specs.declared.op_tree.RegionTree.{roll-RegionTree, out-roll-RegionTree}
 use Rattle.tree_model.specs.declared.op_tree.FuncTree.{FuncTree}
 use Rattle.tree_model.specs.declared.op_tree.ModuleTree.{ModuleTree}
 use Rattle.lowering_model.specs.Trees.{Values, Entries}
@@ -11,7 +11,7 @@ use Rattle.lowering_model.specs.ArithRows.{arith_row}
 use Rattle.lowering_model.specs.ArithPass.{arith_converted}
 use Rattle.lowering_model.specs.FirstFunctions.{FirstOp, IsFirstFunc, func_op, i32_values, op_of}
 use Rattle.lowering_model.proofs.FirstLemmas.{llvm_of}
-use Rattle.lowering_model.proofs.FunctionLemmas.{converts, first_func, llvm_func, one_block, one_region, row_gives}
+use Rattle.lowering_model.proofs.FunctionLemmas.{converts, llvm_func, one_block, one_region, row_gives}
 use Rattle.conv_driver.specs.Swaps.{Row, swapped_block, swapped_func, swapped_inside, swapped_or_same, swapped_region}
 use Rattle.conv_driver.specs.Modules.{AllFirst, EachConverts, IsConverted}
 
@@ -89,3 +89,9 @@ module_converts row is before first props attrs funcs same_props same_attrs swap
   attrs = same_attrs;
   funcs = let P : List FuncTree → Type 0 = λ gs. EachConverts before.funcs gs in subst P (sym swapped) (each_swapped row is before.funcs first);
 }
+
+-- a function over these operations is a first function
+pub first_over : {E : Type 0} (r : Result FuncTree E) (ops : List OpTree) (os : List FirstOp)
+    → IfOk r (λ f. (firsts : List FirstOp) → ops ≡ map op_of firsts → IsFirstFunc f) → ops ≡ map op_of os → IfOk r (λ f. IsFirstFunc f)
+first_over (Ok f) ops os made is = made os is
+first_over (Err e) ops os made is = tt

@@ -9,7 +9,7 @@ use Rattle.text_model.specs.declared.first.Maker.{Maker}
 use Rattle.text_model.specs.declared.first.Maker.TheVariants as maker
 use Rattle.text_model.specs.declared.first.Line.{Line}
 use Rattle.text_model.specs.declared.first.FirstFunc.{FirstFunc}
-use Rattle.text_model.specs.FirstNames.{bytes_of, decimal_value, func_tree, line_ops, maker_op, module_tree, number_of, numbered, signature_props, signed}
+use Rattle.text_model.specs.FirstNames.{bytes_of, decimal_value, func_tree, line_ops, maker_op, number_of, numbered, signature_props, signed}
 use Rattle.lowering_model.specs.FirstFunctions.{FirstOp, Constant, Addition, Return, IsFirstFunc, func_op, i32, i32_values, op_of}
 use Rattle.conv_driver.specs.Modules.{AllFirst, FirstModules}
 

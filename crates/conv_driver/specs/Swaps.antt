@@ -1,5 +1,5 @@
 -- Functions whose operations are each swapped for one product, or stay.
-use Rattle.std.specs.Prelude.{List, map, Option, unwrap_or}
+use Rattle.std.specs.Prelude.{map, Option, unwrap_or}
 use Rattle.tree_model.specs.declared.op_tree.OpTree.{OpTree, out-OpTree, roll-OpTree}
 use Rattle.tree_model.specs.declared.op_tree.BlockTree.{BlockTree, out-BlockTree, roll-BlockTree}
 use Rattle.tree_model.specs.declared.op_tree.RegionTree.{RegionTree, out-RegionTree, roll-RegionTree}

@@ -1,3 +1,8 @@
+ghost use Rattle.std.specs.Prelude.{◌≡◌, ℕ, List, [], ◌∷◌, IfOk, Some, codes, map};
+ghost use Rattle.lowering_model.specs.Trees.{plain_op};
+ghost use Rattle.lowering_model.specs.FirstFunctions.{Addition, Constant, FirstOp, IsFirstFunc, Return, i32, op_of};
+ghost use Rattle.conv_driver.specs.Modules.{AllFirst};
+
 use crate::{convert_module, convert_tree};
 use arith_lowering::ArithFirst;
 use sqlite_items::Items;
@@ -6,34 +11,53 @@ use std::process::Abort;
 use std::test::Fail;
 use tree_model::{
     AttrTree, BlockTree, Bytes, DictTree, FuncTree, ModuleTree, NoMemory, OpList, OpTree,
-    RegionTree, TypeTree, put_dict,
+    RegionTree, TypeTree, ValueList, put_dict,
 };
 
-fn text(alloc: Global, bytes: &[u8]) -> Result<Bytes, NoMemory> {
+fn text(alloc: Global, bytes: &[u8]) -> Result<Bytes, NoMemory>
+    ensures { IfOk result (λ b. b ≡ bytes.now) }
+{
     Bytes::from_slice(alloc, bytes)
 }
 
-fn one<T: Drop>(alloc: Global, item: T) -> Result<Items<T>, NoMemory> {
+fn one<T: Drop>(alloc: Global, item: T) -> Result<Items<T>, NoMemory>
+    ensures { IfOk result (λ xs. xs ≡ item ∷ []) }
+{
     let mut items = Items::new(alloc);
     items.push(item)?;
     Ok(items)
 }
 
-/// An operation over `i32` without attributes, regions and successors.
+fn value(alloc: Global, n: u32) -> Result<ValueList, NoMemory>
+    ensures { IfOk result (λ vs. vs ≡ (n, i32) ∷ []) }
+{
+    let mut values = Items::new(alloc);
+    values.push((n, TypeTree::Int(32)))?;
+    Ok(values)
+}
+
+fn entry(alloc: Global, name: &[u8], of: AttrTree) -> Result<DictTree, NoMemory>
+    ensures { IfOk result (λ d. d ≡ (name.now, of) ∷ []) }
+{
+    let name = text(alloc, name)?;
+    let mut entries = Items::new(alloc);
+    entries.push((name, of))?;
+    Ok(entries)
+}
+
+/// An operation without attributes, regions and successors.
 fn op(
     alloc: Global,
     name: &[u8],
-    results: &[u32],
+    results: ValueList,
     operands: &[u32],
     props: DictTree,
-) -> Result<OpTree, NoMemory> {
-    let mut values = Items::new(alloc);
-    for result in results {
-        values.push((*result, TypeTree::Int(32)))?;
-    }
+) -> Result<OpTree, NoMemory>
+    ensures { IfOk result (λ o. o ≡ plain_op name.now results operands.now props) }
+{
     Ok(OpTree {
         name: text(alloc, name)?,
-        results: values,
+        results,
         operands: Items::from_slice(alloc, operands)?,
         props,
         attrs: Items::new(alloc),
@@ -42,51 +66,95 @@ fn op(
     })
 }
 
-fn constant(alloc: Global, n: u32, value: i64) -> Result<OpTree, NoMemory> {
-    let value = AttrTree::Int(value, TypeTree::Int(32));
-    let props = one(alloc, (text(alloc, b"value")?, value))?;
-    op(alloc, b"arith.constant", &[n], &[], props)
+fn constant(alloc: Global, n: u32, number: i64) -> Result<OpTree, NoMemory>
+    ensures { IfOk result (λ o. o ≡ op_of (Constant n number)) }
+{
+    let number = AttrTree::Int(number, TypeTree::Int(32));
+    let props = entry(alloc, b"value", number)?;
+    op(alloc, b"arith.constant", value(alloc, n)?, &[], props)
 }
 
-fn sum(alloc: Global, n: u32, left: u32, right: u32) -> Result<OpTree, NoMemory> {
+fn sum(alloc: Global, n: u32, left: u32, right: u32) -> Result<OpTree, NoMemory>
+    ensures { IfOk result (λ o. o ≡ op_of (Addition n left right (Some (codes "none" ∷ [])))) }
+{
     let words = one(alloc, text(alloc, b"none")?)?;
     let flags = AttrTree::Dialect(text(alloc, b"arith.overflow")?, words);
-    let props = one(alloc, (text(alloc, b"overflowFlags")?, flags))?;
-    op(alloc, b"arith.addi", &[n], &[left, right], props)
+    let props = entry(alloc, b"overflowFlags", flags)?;
+    op(
+        alloc,
+        b"arith.addi",
+        value(alloc, n)?,
+        &[left, right],
+        props,
+    )
 }
 
-fn answer(alloc: Global, n: u32) -> Result<OpTree, NoMemory> {
-    op(alloc, b"func.return", &[], &[n], Items::new(alloc))
+fn answer(alloc: Global, n: u32) -> Result<OpTree, NoMemory>
+    ensures { IfOk result (λ o. o ≡ op_of (Return n)) }
+{
+    let none = Items::new(alloc);
+    op(alloc, b"func.return", none, &[n], Items::new(alloc))
 }
 
 /// A function of one argument, with value 0.
-fn func(alloc: Global, name: &[u8], ops: OpList) -> Result<FuncTree, NoMemory> {
-    let args = one(alloc, (0, TypeTree::Int(32)))?;
+fn func(alloc: Global, name: &[u8], ops: OpList) -> Result<FuncTree, NoMemory>
+    ensures { IfOk result (λ f. (os : List FirstOp) → ops ≡ map op_of os → IsFirstFunc f) }
+{
+    let args = value(alloc, 0)?;
     let block = BlockTree {
         label: 0,
         args,
         ops,
     };
-    let blocks = one(alloc, block)?;
+    let region = RegionTree {
+        blocks: one(alloc, block)?,
+    };
     let name = AttrTree::Str(text(alloc, name)?);
-    let props = one(alloc, (text(alloc, b"sym_name")?, name))?;
-    let mut op = op(alloc, b"func.func", &[], &[], props)?;
-    op.regions = one(alloc, RegionTree { blocks })?;
+    let op = OpTree {
+        name: text(alloc, b"func.func")?,
+        results: Items::new(alloc),
+        operands: Items::new(alloc),
+        props: entry(alloc, b"sym_name", name)?,
+        attrs: Items::new(alloc),
+        regions: one(alloc, region)?,
+        successors: Items::new(alloc),
+    };
     Ok(FuncTree { op })
 }
 
-/// `f` makes two constants and their sum, `g` gives back its argument, `h` adds it to itself.
-fn three(alloc: Global) -> Result<ModuleTree, NoMemory> {
-    let mut f = one(alloc, constant(alloc, 1, 5)?)?;
-    f.push(constant(alloc, 2, -6)?)?;
-    f.push(sum(alloc, 3, 1, 2)?)?;
-    f.push(answer(alloc, 3)?)?;
-    let g = one(alloc, answer(alloc, 0)?)?;
-    let mut h = one(alloc, sum(alloc, 1, 0, 0)?)?;
-    h.push(answer(alloc, 1)?)?;
-    let mut funcs = one(alloc, func(alloc, b"f", f)?)?;
-    funcs.push(func(alloc, b"g", g)?)?;
-    funcs.push(func(alloc, b"h", h)?)?;
+/// Two constants and their sum.
+fn adding(alloc: Global) -> Result<FuncTree, NoMemory>
+    ensures { IfOk result IsFirstFunc }
+{
+    let mut ops = one(alloc, constant(alloc, 1, 5)?)?;
+    ops.push(constant(alloc, 2, 6)?)?;
+    ops.push(sum(alloc, 3, 1, 2)?)?;
+    ops.push(answer(alloc, 3)?)?;
+    func(alloc, b"f", ops)
+}
+
+/// The argument as it is.
+fn same(alloc: Global) -> Result<FuncTree, NoMemory>
+    ensures { IfOk result IsFirstFunc }
+{
+    func(alloc, b"g", one(alloc, answer(alloc, 0)?)?)
+}
+
+/// The argument added to itself.
+fn doubling(alloc: Global) -> Result<FuncTree, NoMemory>
+    ensures { IfOk result IsFirstFunc }
+{
+    let mut ops = one(alloc, sum(alloc, 1, 0, 0)?)?;
+    ops.push(answer(alloc, 1)?)?;
+    func(alloc, b"h", ops)
+}
+
+fn three(alloc: Global) -> Result<ModuleTree, NoMemory>
+    ensures { IfOk result (λ m. AllFirst m.funcs) }
+{
+    let mut funcs = one(alloc, adding(alloc)?)?;
+    funcs.push(same(alloc)?)?;
+    funcs.push(doubling(alloc)?)?;
     Ok(ModuleTree {
         props: Items::new(alloc),
         attrs: Items::new(alloc),
@@ -134,7 +202,7 @@ fn each_function_of_a_module_is_converted(rt: HostRuntime) -> Result<(), Fail> {
     }
     let want = "func.func <sym_name = \"f\">
 llvm.mlir.constant <value = 5 : i32> =1
-llvm.mlir.constant <value = -6 : i32> =2
+llvm.mlir.constant <value = 6 : i32> =2
 llvm.add <overflowFlags = #llvm.overflow<none>> =3 %1 %2
 func.return <> %3
 func.func <sym_name = \"g\">
@@ -150,13 +218,12 @@ func.return <> %1
 #[test]
 fn a_function_without_arith_is_the_same(rt: HostRuntime) -> Result<(), Fail> {
     let alloc = rt.alloc();
-    let same = func(alloc, b"same", one(alloc, answer(alloc, 0)?)?)?;
-    let converted = convert_tree(alloc, &same, &ArithFirst::new())?;
+    let converted = convert_tree(alloc, &same(alloc)?, &ArithFirst::new())?;
     let mut got = Bytes::new(alloc);
     put_func(&mut got, &converted)?;
     assert_eq!(rt;
         got.as_slice(),
-        b"func.func <sym_name = \"same\">\nfunc.return <> %0\n".as_slice()
+        b"func.func <sym_name = \"g\">\nfunc.return <> %0\n".as_slice()
     );
     Ok(())
 }
