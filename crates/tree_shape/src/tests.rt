@@ -157,17 +157,27 @@ fn sums(
     func(alloc, one(alloc, block(alloc, 0, &[0], ops)?)?)
 }
 
+/// A function of such sums isn't the same as the base.
+fn differs(
+    rt: &impl Abort,
+    alloc: Global,
+    base: &FuncTree,
+    name: &str,
+    width: u32,
+    flag: i64,
+    times: usize,
+) -> Result<(), NoMemory> {
+    let other = sums(alloc, name, width, flag, times)?;
+    compares(rt, alloc, base, &other, false)
+}
+
 #[test]
 fn names_types_attributes_and_operations_count(rt: HostRuntime) -> Result<(), Fail> {
     let alloc = rt.alloc();
     let base = sums(alloc, "arith.addi", 32, 4, 1)?;
-    let other_name = sums(alloc, "arith.muli", 32, 4, 1)?;
-    compares(&rt, alloc, &base, &other_name, false)?;
-    let other_type = sums(alloc, "arith.addi", 64, 4, 1)?;
-    compares(&rt, alloc, &base, &other_type, false)?;
-    let other_attribute = sums(alloc, "arith.addi", 32, 5, 1)?;
-    compares(&rt, alloc, &base, &other_attribute, false)?;
-    let one_more = sums(alloc, "arith.addi", 32, 4, 2)?;
-    compares(&rt, alloc, &base, &one_more, false)?;
+    differs(&rt, alloc, &base, "arith.muli", 32, 4, 1)?;
+    differs(&rt, alloc, &base, "arith.addi", 64, 4, 1)?;
+    differs(&rt, alloc, &base, "arith.addi", 32, 5, 1)?;
+    differs(&rt, alloc, &base, "arith.addi", 32, 4, 2)?;
     Ok(())
 }
