@@ -1,13 +1,13 @@
 -- How the operations of first functions convert.
 use Rattle.std.proofs.Common.{◌≡◌, ℕ, suc, ◌==◌, Bool, true, false, List, [], ◌∷◌, Option, Some, None, refl, ap, ◌∙◌}
 use Rattle.std.specs.Prelude.{ℤ, codes, unwrap_or, is_some, not, ◌&&◌, if◌then◌else◌}
-use Rattle.tree_model.specs.declared.type_tree.TypeTree.{TypeTree}
+use Rattle.tree_model.specs.declared.type_tree.TypeTree.{TypeTree, map-TypeTree, fold_out-TypeTree}
 use Rattle.tree_model.specs.declared.type_tree.TypeTree.TheVariants as type_parts
 use Rattle.tree_model.specs.declared.attr_tree.AttrTree.{AttrTree}
 use Rattle.tree_model.specs.declared.attr_tree.AttrTree as attr
 use Rattle.tree_model.specs.declared.attr_tree.AttrTree.TheVariants as attr_parts
 use Rattle.tree_model.specs.declared.op_tree.OpTree.{OpTree, out-roll-OpTree}
-use Rattle.lowering_model.specs.Types.{becomes, new_type, own_at, row_at}
+use Rattle.lowering_model.specs.Types.{becomes, changed_at, is_llvm_value, llvm_value_at, new_type}
 use Rattle.lowering_model.specs.Trees.{Values, Entries, Parts, plain_op, parts_of, property, type_of}
 use Rattle.lowering_model.specs.Rows.{Operand, Source}
 use Rattle.lowering_model.specs.Targets.{Legal, demanded, Partial}
@@ -37,11 +37,14 @@ pub parts_plain : (name : List ℕ) (results : Values) (operands : List ℕ) (pr
 parts_plain name results operands props = out-roll-OpTree _
 
 -- `i32` is own
+pub i32_is_own : is_llvm_value i32 ≡ true
+i32_is_own = fold_out-TypeTree Bool llvm_value_at i32 ∙ ap (λ x. llvm_value_at (map-TypeTree TypeTree Bool is_llvm_value x)) (type_parts.outs-Int 32)
+
 pub i32_becomes : becomes i32 ≡ i32
-i32_becomes = ap (λ x. unwrap_or (row_at x) i32) (type_parts.outs-Int 32)
+i32_becomes = ap (λ own. unwrap_or (if own then Some i32 else new_type i32) i32) i32_is_own
 
 pub i32_stays : new_type i32 ≡ None
-i32_stays = ap (λ x. if own_at x then None else row_at x) (type_parts.outs-Int 32)
+i32_stays = ap changed_at (type_parts.outs-Int 32)
 
 unchanged_at : (rest : Option TypeTree) → change_at rest ≡ None → (b : Bool) → change_at (if b then Some i32 else rest) ≡ None
 unchanged_at rest none true = i32_stays

@@ -1,8 +1,9 @@
 -- Laws of the definitions.
-use Rattle.std.specs.Prelude.{◌≡◌, ◌↔◌, ℕ, Bool, true, false, not, IsTrue, List, [], ◌∷◌, take, drop, codes, Some, Ok, ⊤}
+use Rattle.std.specs.Prelude.{◌≡◌, ◌↔◌, ℕ, Bool, true, false, not, IsTrue, List, [], ◌∷◌, take, drop, codes, Some, None, Ok, ⊤}
 use Rattle.std.specs.List.{list_all}
 use Rattle.std.specs.Str.{bytes_eq}
 use Rattle.tree_model.specs.declared.type_tree.TypeTree.{TypeTree}
+use Rattle.tree_model.specs.declared.type_tree.TypeTree as type
 use Rattle.tree_model.specs.declared.op_tree.OpTree.{OpTree, roll-OpTree}
 use Rattle.tree_model.specs.declared.op_tree.BlockTree.{BlockTree, roll-BlockTree}
 use Rattle.tree_model.specs.declared.op_tree.RegionTree.{RegionTree, roll-RegionTree}
@@ -17,6 +18,10 @@ use Rattle.lowering_model.specs.FirstFunctions.{IsFirstFunc}
 -- the own types are those that the table maps to themselves
 abbrev pub OwnTypes : Type 0
 OwnTypes = (t : TypeTree) → IsTrue (is_own t) ↔ (converted_type t ≡ Some t)
+
+-- a struct that holds an `index` has no row, since `index` is no type of the llvm dialect
+abbrev pub MixedHasNoRow : Type 0
+MixedHasNoRow = converted_type (type.Struct (type.Index ∷ [])) ≡ None
 
 -- convert-arith-to-llvm fails at no first function
 abbrev pub FirstConverts : Type 0

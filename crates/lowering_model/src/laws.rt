@@ -1,10 +1,11 @@
 //! Laws of conversion, each the contract of a function that does nothing.
 
-ghost use Rattle.lowering_model.specs.Promises.{FirstConverts, NoArithLeft, OthersStand, OwnTypes};
+ghost use Rattle.lowering_model.specs.Promises.{FirstConverts, MixedHasNoRow, NoArithLeft, OthersStand, OwnTypes};
 
-/// The own types are those that the table maps to themselves.
+/// The own types are those that the table maps to themselves, and no struct of other types has a row.
 pub fn law_own_types()
-    ensures { OwnTypes }
+    ensures own { OwnTypes }
+    ensures mixed { MixedHasNoRow }
 {}
 
 /// The pass convert-arith-to-llvm converts each first function.
