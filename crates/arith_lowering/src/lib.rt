@@ -7,6 +7,3 @@ mod rows;
 mod types;
 
 pub use first::ArithFirst;
-
-#[cfg(test)]
-mod tests;

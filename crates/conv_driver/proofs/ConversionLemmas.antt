@@ -89,9 +89,3 @@ module_converts row is before first props attrs funcs same_props same_attrs swap
   attrs = same_attrs;
   funcs = let P : List FuncTree → Type 0 = λ gs. EachConverts before.funcs gs in subst P (sym swapped) (each_swapped row is before.funcs first);
 }
-
--- a function over these operations is a first function
-pub first_over : {E : Type 0} (r : Result FuncTree E) (ops : List OpTree) (os : List FirstOp)
-    → IfOk r (λ f. (firsts : List FirstOp) → ops ≡ map op_of firsts → IsFirstFunc f) → ops ≡ map op_of os → IfOk r (λ f. IsFirstFunc f)
-first_over (Ok f) ops os made is = made os is
-first_over (Err e) ops os made is = tt

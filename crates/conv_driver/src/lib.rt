@@ -6,6 +6,3 @@ mod laws;
 
 pub use convert::{convert_module, convert_tree};
 pub use laws::law_first_module;
-
-#[cfg(test)]
-mod tests;

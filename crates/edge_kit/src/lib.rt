@@ -6,8 +6,6 @@
 
 pub mod sink;
 pub mod source;
-#[cfg(test)]
-mod tests;
 pub mod words;
 
 pub use sink::{MemSink, Sink, SinkFault, StdSink, SureSink};

@@ -7,6 +7,3 @@ mod printing;
 mod table;
 
 pub use printing::{print_tree, put_func};
-
-#[cfg(test)]
-mod tests;

@@ -5,9 +5,6 @@ mod scan;
 
 pub use scan::{is_bare_byte, is_digit, starts_bare};
 
-#[cfg(test)]
-mod tests;
-
 ghost use Rattle.std.specs.Prelude.{◌≡◌, ℕ, ◌+◌, ◌^◌, ◌<◌, ◌≤◌, drop, length, IfOk, IfSome, All};
 ghost use Rattle.mlir_lex.specs.Laws.{CutsOnce, FaultIsFirst, OnlyGapsBetween, SpansAreInOrder, TokensAreLongest};
 ghost use Rattle.mlir_lex.specs.Scan.{outcome_after};

@@ -8,6 +8,3 @@ mod merging;
 pub use diag::{Diag, NoMemory};
 pub use laws::{law_lines_of_a_failure, law_one_order};
 pub use merging::merge;
-
-#[cfg(test)]
-mod tests;

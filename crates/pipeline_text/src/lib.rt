@@ -18,6 +18,3 @@ pub use printer::{NoMemory, print_pipeline};
 pub use reading::read_pipeline;
 pub use refusal::{PipelineKind, PipelineRefusal};
 pub use token::{Kind, Level, Token, Wanted};
-
-#[cfg(test)]
-mod tests;

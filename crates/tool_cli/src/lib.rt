@@ -13,6 +13,3 @@ pub mod status;
 
 pub use run::{law_one_reply, run_single, run_sure};
 pub use status::Status;
-
-#[cfg(test)]
-mod tests;

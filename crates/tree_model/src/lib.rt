@@ -35,6 +35,3 @@ pub use print_type::{is_function, put_type, put_types, type_text};
 pub use type_copy::{copy_type, copy_types};
 pub use type_same::{same_dim, same_dims, same_type, same_types};
 pub use type_tree::{Dim, DimList, TypeList, TypeTree};
-
-#[cfg(test)]
-mod tests;

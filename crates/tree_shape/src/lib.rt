@@ -11,6 +11,3 @@ mod same;
 
 pub use laws::{law_same_is_reflexive, law_same_is_symmetric, law_same_is_transitive};
 pub use same::same_shape;
-
-#[cfg(test)]
-mod tests;

@@ -1,27 +1,14 @@
-use crate::{
-    AttrTree, BlockTree, Bytes, Dim, FuncTree, ModuleTree, NoMemory, OpTree, RegionTree, TypeTree,
-    attr_text, copy_attr, copy_module, copy_type, same_attr, same_type, type_text,
-};
+//! Copies, equality, and the texts of types and attributes.
+
+use crate::fixtures::{entry, one, text, two};
 use sqlite_items::{Boxed, Items};
 use std::alloc::Global;
 use std::process::Abort;
 use std::test::Fail;
-
-fn text(alloc: Global, bytes: &[u8]) -> Result<Bytes, NoMemory> {
-    Bytes::from_slice(alloc, bytes)
-}
-
-fn one<T: Drop>(alloc: Global, item: T) -> Result<Items<T>, NoMemory> {
-    let mut items = Items::new(alloc);
-    items.push(item)?;
-    Ok(items)
-}
-
-fn two<T: Drop>(alloc: Global, first: T, second: T) -> Result<Items<T>, NoMemory> {
-    let mut items = one(alloc, first)?;
-    items.push(second)?;
-    Ok(items)
-}
+use tree_model::{
+    AttrTree, BlockTree, Dim, FuncTree, ModuleTree, NoMemory, OpTree, RegionTree, TypeTree,
+    attr_text, copy_attr, copy_module, copy_type, same_attr, same_type, type_text,
+};
 
 /// `(memref<2x?xi32>) -> (!llvm.struct<(ptr, array<3 x i8>)>, index)`
 fn sample_type(alloc: Global) -> Result<TypeTree, NoMemory> {
@@ -56,8 +43,8 @@ fn op(
         name: text(alloc, name)?,
         results: one(alloc, (7, sample_type(alloc)?))?,
         operands: Items::from_slice(alloc, operands)?,
-        props: one(alloc, (text(alloc, b"p")?, sample_attr(alloc)?))?,
-        attrs: one(alloc, (text(alloc, b"q")?, AttrTree::Unit))?,
+        props: entry(alloc, b"p", sample_attr(alloc)?)?,
+        attrs: entry(alloc, b"q", AttrTree::Unit)?,
         regions,
         successors: Items::from_slice(alloc, &[4, 5])?,
     })
@@ -75,14 +62,8 @@ fn sample_module(alloc: Global) -> Result<ModuleTree, NoMemory> {
     };
     let outer = op(alloc, b"func.func", one(alloc, region)?, &[])?;
     Ok(ModuleTree {
-        props: one(
-            alloc,
-            (text(alloc, b"sym_name")?, AttrTree::Str(text(alloc, b"m")?)),
-        )?,
-        attrs: one(
-            alloc,
-            (text(alloc, b"z")?, AttrTree::OfType(sample_type(alloc)?)),
-        )?,
+        props: entry(alloc, b"sym_name", AttrTree::Str(text(alloc, b"m")?))?,
+        attrs: entry(alloc, b"z", AttrTree::OfType(sample_type(alloc)?))?,
         funcs: one(alloc, FuncTree { op: outer })?,
     })
 }

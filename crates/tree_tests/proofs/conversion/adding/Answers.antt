@@ -1,8 +1,8 @@
 use Rattle.std.proofs.Common.{[], ◌∷◌, refl, Some}
 use Rattle.std.specs.Prelude.{codes, pos}
 use Rattle.lowering_model.specs.FirstFunctions.{Addition, Constant, Return}
-use Rattle.conv_driver.proofs.ConversionLemmas.{first_over}
-use Rattle.conv_driver.proofs.tests.adding.Goals as goal
+use Rattle.tree_tests.proofs.FirstOver.{first_over}
+use Rattle.tree_tests.proofs.conversion.adding.Goals as goal
 
 pub returns : goal.returns
 returns c = first_over _ _ (Constant 1 (pos 5) ∷ Constant 2 (pos 6) ∷ Addition 3 1 2 (Some (codes "none" ∷ [])) ∷ Return 3 ∷ []) c.func.ensures

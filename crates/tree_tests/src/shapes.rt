@@ -1,64 +1,28 @@
-use crate::same_shape;
+//! Sameness of functions up to numbers.
+
+use crate::fixtures::{block, entry, one, plain_op, two};
 use sqlite_items::Items;
 use std::alloc::Global;
 use std::process::Abort;
 use std::test::Fail;
-use tree_model::{
-    AttrTree, BlockList, BlockTree, Bytes, FuncTree, IdList, NoMemory, OpList, OpTree, RegionTree,
-    TypeTree,
-};
-
-fn one<T: Drop>(alloc: Global, item: T) -> Result<Items<T>, NoMemory> {
-    let mut items = Items::new(alloc);
-    items.push(item)?;
-    Ok(items)
-}
-
-fn ids(alloc: Global, numbers: &[u32]) -> Result<IdList, NoMemory> {
-    Items::from_slice(alloc, numbers)
-}
-
-fn plain_op(alloc: Global, name: &str, operands: &[u32]) -> Result<OpTree, NoMemory> {
-    Ok(OpTree {
-        name: Bytes::from_slice(alloc, name.as_bytes())?,
-        results: Items::new(alloc),
-        operands: ids(alloc, operands)?,
-        props: Items::new(alloc),
-        attrs: Items::new(alloc),
-        regions: Items::new(alloc),
-        successors: Items::new(alloc),
-    })
-}
+use tree_model::{AttrTree, BlockList, FuncTree, NoMemory, OpTree, RegionTree, TypeTree};
+use tree_shape::same_shape;
 
 /// The sum of two values, with an attribute.
 fn sum(
     alloc: Global,
-    name: &str,
+    name: &[u8],
     value: (u32, u32),
     operands: &[u32],
     flag: i64,
 ) -> Result<OpTree, NoMemory> {
-    let mut sum = plain_op(alloc, name, operands)?;
-    sum.results = one(alloc, (value.0, TypeTree::Int(value.1)))?;
-    let flag = AttrTree::Int(flag, TypeTree::Int(64));
-    sum.attrs = one(alloc, (Bytes::from_slice(alloc, b"flag")?, flag))?;
+    let mut sum = plain_op(alloc, name, &[value], operands)?;
+    sum.attrs = entry(alloc, b"flag", AttrTree::Int(flag, TypeTree::Int(64)))?;
     Ok(sum)
 }
 
-fn block(alloc: Global, label: u32, args: &[u32], ops: OpList) -> Result<BlockTree, NoMemory> {
-    let mut block = BlockTree {
-        label,
-        args: Items::new(alloc),
-        ops,
-    };
-    for arg in args {
-        block.args.push((*arg, TypeTree::Int(32)))?;
-    }
-    Ok(block)
-}
-
 fn func(alloc: Global, blocks: BlockList) -> Result<FuncTree, NoMemory> {
-    let mut op = plain_op(alloc, "func.func", &[])?;
+    let mut op = plain_op(alloc, b"func.func", &[], &[])?;
     op.regions = one(alloc, RegionTree { blocks })?;
     Ok(FuncTree { op })
 }
@@ -68,17 +32,14 @@ fn func(alloc: Global, blocks: BlockList) -> Result<FuncTree, NoMemory> {
 /// second block's argument and what is returned. The labels are that of the first block, the one
 /// that is branched to, and that of the second block.
 fn sample(alloc: Global, v: [u32; 8], labels: [u32; 3]) -> Result<FuncTree, NoMemory> {
-    let mut ops = one(
-        alloc,
-        sum(alloc, "arith.addi", (v[2], 32), &[v[3], v[4]], 4)?,
-    )?;
-    let mut branch = plain_op(alloc, "cf.br", &[v[5]])?;
-    branch.successors = ids(alloc, &[labels[1]])?;
-    ops.push(branch)?;
-    let last = one(alloc, plain_op(alloc, "func.return", &[v[7]])?)?;
-    let mut blocks = one(alloc, block(alloc, labels[0], &[v[0], v[1]], ops)?)?;
-    blocks.push(block(alloc, labels[2], &[v[6]], last)?)?;
-    func(alloc, blocks)
+    let mut branch = plain_op(alloc, b"cf.br", &[], &[v[5]])?;
+    branch.successors = Items::from_slice(alloc, &[labels[1]])?;
+    let mut first = block(alloc, labels[0], &[(v[0], 32), (v[1], 32)])?;
+    let added = sum(alloc, b"arith.addi", (v[2], 32), &[v[3], v[4]], 4)?;
+    first.ops = two(alloc, added, branch)?;
+    let mut last = block(alloc, labels[2], &[(v[6], 32)])?;
+    last.ops = one(alloc, plain_op(alloc, b"func.return", &[], &[v[7]])?)?;
+    func(alloc, two(alloc, first, last)?)
 }
 
 /// Both ways round, the answer is `want`.
@@ -145,16 +106,16 @@ fn labels_are_renamed_one_to_one(rt: HostRuntime) -> Result<(), Fail> {
 /// A function of one block with this sum in it so many times.
 fn sums(
     alloc: Global,
-    name: &str,
+    name: &[u8],
     width: u32,
     flag: i64,
     times: usize,
 ) -> Result<FuncTree, NoMemory> {
-    let mut ops = Items::new(alloc);
+    let mut body = block(alloc, 0, &[(0, 32)])?;
     for _ in 0..times {
-        ops.push(sum(alloc, name, (1, width), &[0, 0], flag)?)?;
+        body.ops.push(sum(alloc, name, (1, width), &[0, 0], flag)?)?;
     }
-    func(alloc, one(alloc, block(alloc, 0, &[0], ops)?)?)
+    func(alloc, one(alloc, body)?)
 }
 
 /// A function of such sums isn't the same as the base.
@@ -162,7 +123,7 @@ fn differs(
     rt: &impl Abort,
     alloc: Global,
     base: &FuncTree,
-    name: &str,
+    name: &[u8],
     width: u32,
     flag: i64,
     times: usize,
@@ -174,10 +135,10 @@ fn differs(
 #[test]
 fn names_types_attributes_and_operations_count(rt: HostRuntime) -> Result<(), Fail> {
     let alloc = rt.alloc();
-    let base = sums(alloc, "arith.addi", 32, 4, 1)?;
-    differs(&rt, alloc, &base, "arith.muli", 32, 4, 1)?;
-    differs(&rt, alloc, &base, "arith.addi", 64, 4, 1)?;
-    differs(&rt, alloc, &base, "arith.addi", 32, 5, 1)?;
-    differs(&rt, alloc, &base, "arith.addi", 32, 4, 2)?;
+    let base = sums(alloc, b"arith.addi", 32, 4, 1)?;
+    differs(&rt, alloc, &base, b"arith.muli", 32, 4, 1)?;
+    differs(&rt, alloc, &base, b"arith.addi", 64, 4, 1)?;
+    differs(&rt, alloc, &base, b"arith.addi", 32, 5, 1)?;
+    differs(&rt, alloc, &base, b"arith.addi", 32, 4, 2)?;
     Ok(())
 }

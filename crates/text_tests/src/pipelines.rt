@@ -1,4 +1,6 @@
-use crate::{
+//! Pipeline texts, read and printed.
+
+use pipeline_text::{
     Anchor, PassName, PassUse, Pipeline, PipelineKind, PipelineRefusal, Stage, print_pipeline,
     read_pipeline,
 };

@@ -1,8 +1,9 @@
-use crate::run::{run_single, run_sure};
-use crate::status::Status;
+//! The program as a whole: words and a text in, two texts and a status out.
+
 use edge_kit::{MemSink, MemSource, SureSink, SureSource, Words};
 use std::alloc::{AllocError, Global};
 use std::test::Fail;
+use tool_cli::{Status, run_single, run_sure};
 
 const INC: &str =
     "\"builtin.module\"() ({ \"func.func\"() <{function_type = (i32) -> i32, sym_name = \"inc\"}> ({ ^bb0(%a: i32): %o = \"arith.constant\"() <{value = 1 : i32}> : () -> i32 %s = \"arith.addi\"(%a, %o) <{overflowFlags = #arith.overflow<none>}> : (i32, i32) -> i32 \"func.return\"(%s) : (i32) -> () }) : () -> () }) : () -> ()";

@@ -1,68 +1,14 @@
-use crate::print_tree;
+//! The printed text of modules.
+
+use crate::fixtures::{block, entry, one, plain_op as op, region, text};
+use generic_printer::print_tree;
 use sqlite_items::Items;
 use std::alloc::Global;
 use std::process::Abort;
 use std::test::Fail;
 use tree_model::{
-    AttrTree, BlockTree, Bytes, DictTree, FuncTree, ModuleTree, NoMemory, OpTree, RegionTree,
-    TypeTree, ValueList,
+    AttrTree, BlockTree, FuncTree, ModuleTree, NoMemory, OpTree, RegionTree, TypeTree,
 };
-
-fn text(alloc: Global, bytes: &[u8]) -> Result<Bytes, NoMemory> {
-    Bytes::from_slice(alloc, bytes)
-}
-
-fn one<T: Drop>(alloc: Global, item: T) -> Result<Items<T>, NoMemory> {
-    let mut items = Items::new(alloc);
-    items.push(item)?;
-    Ok(items)
-}
-
-fn entry(alloc: Global, name: &[u8], value: AttrTree) -> Result<DictTree, NoMemory> {
-    one(alloc, (text(alloc, name)?, value))
-}
-
-/// Values with these numbers and integer types of these widths.
-fn values(alloc: Global, pairs: &[(u32, u32)]) -> Result<ValueList, NoMemory> {
-    let mut list = Items::new(alloc);
-    for (value, width) in pairs {
-        list.push((*value, TypeTree::Int(*width)))?;
-    }
-    Ok(list)
-}
-
-/// An operation that no dictionary, region or successor belongs to.
-fn op(
-    alloc: Global,
-    name: &[u8],
-    results: &[(u32, u32)],
-    operands: &[u32],
-) -> Result<OpTree, NoMemory> {
-    Ok(OpTree {
-        name: text(alloc, name)?,
-        results: values(alloc, results)?,
-        operands: Items::from_slice(alloc, operands)?,
-        props: Items::new(alloc),
-        attrs: Items::new(alloc),
-        regions: Items::new(alloc),
-        successors: Items::new(alloc),
-    })
-}
-
-/// A block without operations.
-fn block(alloc: Global, label: u32, args: &[(u32, u32)]) -> Result<BlockTree, NoMemory> {
-    Ok(BlockTree {
-        label,
-        args: values(alloc, args)?,
-        ops: Items::new(alloc),
-    })
-}
-
-fn region(alloc: Global, block: BlockTree) -> Result<RegionTree, NoMemory> {
-    Ok(RegionTree {
-        blocks: one(alloc, block)?,
-    })
-}
 
 fn module(alloc: Global, op: OpTree) -> Result<ModuleTree, NoMemory> {
     Ok(ModuleTree {

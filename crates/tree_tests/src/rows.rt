@@ -1,22 +1,13 @@
-use crate::ArithFirst;
+//! The products of rows.
+
+use crate::fixtures::{entry, one, op_with, put_op, text, two};
+use arith_lowering::ArithFirst;
 use lowering_model::TreePatterns;
 use sqlite_items::{Boxed, Items};
 use std::alloc::Global;
 use std::process::Abort;
 use std::test::Fail;
-use tree_model::{
-    AttrTree, Bytes, DictTree, Dim, NoMemory, OpTree, TypeTree, ValueList, put_dict, put_type,
-};
-
-fn text(alloc: Global, bytes: &[u8]) -> Result<Bytes, NoMemory> {
-    Bytes::from_slice(alloc, bytes)
-}
-
-fn one<T: Drop>(alloc: Global, item: T) -> Result<Items<T>, NoMemory> {
-    let mut items = Items::new(alloc);
-    items.push(item)?;
-    Ok(items)
-}
+use tree_model::{AttrTree, Bytes, DictTree, Dim, NoMemory, OpTree, TypeTree};
 
 /// An operation that defines value 7, with one attribute.
 fn op(
@@ -26,63 +17,30 @@ fn op(
     operands: &[u32],
     props: DictTree,
 ) -> Result<OpTree, NoMemory> {
-    Ok(OpTree {
-        name: text(alloc, name)?,
-        results: one(alloc, (7, of))?,
-        operands: Items::from_slice(alloc, operands)?,
-        props,
-        attrs: one(alloc, (text(alloc, b"note")?, AttrTree::Unit))?,
-        regions: Items::new(alloc),
-        successors: Items::new(alloc),
-    })
+    let mut op = op_with(alloc, name, one(alloc, (7, of))?, operands, props)?;
+    op.attrs = entry(alloc, b"note", AttrTree::Unit)?;
+    Ok(op)
 }
 
 /// A constant, with another property beside its value.
 fn constant(alloc: Global, value: i64, of: TypeTree, made: TypeTree) -> Result<OpTree, NoMemory> {
-    let mut props = one(alloc, (text(alloc, b"other")?, AttrTree::Unit))?;
+    let mut props = entry(alloc, b"other", AttrTree::Unit)?;
     props.push((text(alloc, b"value")?, AttrTree::Int(value, of)))?;
     op(alloc, b"arith.constant", made, &[], props)
 }
 
 fn flags(alloc: Global, dialect: &[u8]) -> Result<DictTree, NoMemory> {
-    let mut words = one(alloc, text(alloc, b"nsw")?)?;
-    words.push(text(alloc, b"nuw")?)?;
+    let words = two(alloc, text(alloc, b"nsw")?, text(alloc, b"nuw")?)?;
     let flags = AttrTree::Dialect(text(alloc, dialect)?, words);
-    one(alloc, (text(alloc, b"overflowFlags")?, flags))
-}
-
-fn put_values(out: &mut Bytes, values: &ValueList) -> Result<(), NoMemory> {
-    for value in values.as_slice() {
-        out.put_number(u64::from(value.0))?;
-        out.put(b":")?;
-        put_type(out, false, &value.1)?;
-        out.put(b" ")?;
-    }
-    Ok(())
-}
-
-/// An operation on one line: results, name, operands, properties and the number of attributes.
-fn shown(alloc: Global, op: &OpTree) -> Result<Bytes, NoMemory> {
-    let mut out = Bytes::new(alloc);
-    put_values(&mut out, &op.results)?;
-    out.put(op.name.as_slice())?;
-    for operand in op.operands.as_slice() {
-        out.put(b" %")?;
-        out.put_number(u64::from(*operand))?;
-    }
-    out.put(b" <")?;
-    put_dict(&mut out, op.props.as_slice())?;
-    out.put(b"> ")?;
-    out.put_number(op.attrs.len() as u64)?;
-    Ok(out)
+    entry(alloc, b"overflowFlags", flags)
 }
 
 /// Checks the product of an operation, or that it has none where the wanted text is empty.
 fn gives(rt: &impl Abort, alloc: Global, op: OpTree, want: &[u8]) -> Result<(), NoMemory> {
-    let got = match ArithFirst::new().replace(alloc, &op)? {
-        Some(product) => shown(alloc, &product)?,
-        None => Bytes::new(alloc),
-    };
+    let mut got = Bytes::new(alloc);
+    if let Some(product) = ArithFirst::new().replace(alloc, &op)? {
+        put_op(&mut got, &product)?;
+    }
     assert_eq!(rt; got.as_slice(), want);
     Ok(())
 }
@@ -109,7 +67,7 @@ fn constants_keep_number_and_value(rt: HostRuntime) -> Result<(), Fail> {
         Items::new(alloc),
     )?;
     gives(&rt, alloc, none, b"")?;
-    let value = one(alloc, (text(alloc, b"value")?, AttrTree::Unit))?;
+    let value = entry(alloc, b"value", AttrTree::Unit)?;
     let unit = op(alloc, b"arith.constant", TypeTree::Int(32), &[], value)?;
     gives(&rt, alloc, unit, b"")?;
     Ok(())

@@ -1,6 +1,9 @@
-use crate::sink::{MemSink, Sink, SinkFault, StdSink, SureSink};
-use crate::source::{Failed, MemSource, Source, StdSource, SureSource};
-use crate::words::Words;
+//! Sources, sinks and words.
+
+use edge_kit::{
+    Failed, MemSink, MemSource, Sink, SinkFault, Source, StdSink, StdSource, SureSink, SureSource,
+    Words,
+};
 use std::test::Fail;
 
 #[test]

@@ -1,69 +1,23 @@
-ghost use Rattle.std.specs.Prelude.{◌≡◌, ℕ, List, [], ◌∷◌, IfOk, Some, codes, map};
-ghost use Rattle.lowering_model.specs.Trees.{plain_op};
+//! The conversion of functions and modules.
+
+ghost use Rattle.std.specs.Prelude.{◌≡◌, List, [], ◌∷◌, IfOk, Some, codes, map};
 ghost use Rattle.lowering_model.specs.FirstFunctions.{Addition, Constant, FirstOp, IsFirstFunc, Return, i32, op_of};
 ghost use Rattle.conv_driver.specs.Modules.{AllFirst};
 
-use crate::{convert_module, convert_tree};
+use crate::fixtures::{entry, one, op_with, put_op, region, text};
 use arith_lowering::ArithFirst;
+use conv_driver::{convert_module, convert_tree};
 use sqlite_items::Items;
 use std::alloc::Global;
-use std::process::Abort;
 use std::test::Fail;
 use tree_model::{
-    AttrTree, BlockTree, Bytes, DictTree, FuncTree, ModuleTree, NoMemory, OpList, OpTree,
-    RegionTree, TypeTree, ValueList, put_dict,
+    AttrTree, BlockTree, Bytes, FuncTree, ModuleTree, NoMemory, OpList, OpTree, TypeTree, ValueList,
 };
-
-fn text(alloc: Global, bytes: &[u8]) -> Result<Bytes, NoMemory>
-    ensures { IfOk result (λ b. b ≡ bytes.now) }
-{
-    Bytes::from_slice(alloc, bytes)
-}
-
-fn one<T: Drop>(alloc: Global, item: T) -> Result<Items<T>, NoMemory>
-    ensures { IfOk result (λ xs. xs ≡ item ∷ []) }
-{
-    let mut items = Items::new(alloc);
-    items.push(item)?;
-    Ok(items)
-}
 
 fn value(alloc: Global, n: u32) -> Result<ValueList, NoMemory>
     ensures { IfOk result (λ vs. vs ≡ (n, i32) ∷ []) }
 {
-    let mut values = Items::new(alloc);
-    values.push((n, TypeTree::Int(32)))?;
-    Ok(values)
-}
-
-fn entry(alloc: Global, name: &[u8], of: AttrTree) -> Result<DictTree, NoMemory>
-    ensures { IfOk result (λ d. d ≡ (name.now, of) ∷ []) }
-{
-    let name = text(alloc, name)?;
-    let mut entries = Items::new(alloc);
-    entries.push((name, of))?;
-    Ok(entries)
-}
-
-/// An operation without attributes, regions and successors.
-fn op(
-    alloc: Global,
-    name: &[u8],
-    results: ValueList,
-    operands: &[u32],
-    props: DictTree,
-) -> Result<OpTree, NoMemory>
-    ensures { IfOk result (λ o. o ≡ plain_op name.now results operands.now props) }
-{
-    Ok(OpTree {
-        name: text(alloc, name)?,
-        results,
-        operands: Items::from_slice(alloc, operands)?,
-        props,
-        attrs: Items::new(alloc),
-        regions: Items::new(alloc),
-        successors: Items::new(alloc),
-    })
+    one(alloc, (n, TypeTree::Int(32)))
 }
 
 fn constant(alloc: Global, n: u32, number: i64) -> Result<OpTree, NoMemory>
@@ -71,7 +25,7 @@ fn constant(alloc: Global, n: u32, number: i64) -> Result<OpTree, NoMemory>
 {
     let number = AttrTree::Int(number, TypeTree::Int(32));
     let props = entry(alloc, b"value", number)?;
-    op(alloc, b"arith.constant", value(alloc, n)?, &[], props)
+    op_with(alloc, b"arith.constant", value(alloc, n)?, &[], props)
 }
 
 fn sum(alloc: Global, n: u32, left: u32, right: u32) -> Result<OpTree, NoMemory>
@@ -80,7 +34,7 @@ fn sum(alloc: Global, n: u32, left: u32, right: u32) -> Result<OpTree, NoMemory>
     let words = one(alloc, text(alloc, b"none")?)?;
     let flags = AttrTree::Dialect(text(alloc, b"arith.overflow")?, words);
     let props = entry(alloc, b"overflowFlags", flags)?;
-    op(
+    op_with(
         alloc,
         b"arith.addi",
         value(alloc, n)?,
@@ -93,7 +47,7 @@ fn answer(alloc: Global, n: u32) -> Result<OpTree, NoMemory>
     ensures { IfOk result (λ o. o ≡ op_of (Return n)) }
 {
     let none = Items::new(alloc);
-    op(alloc, b"func.return", none, &[n], Items::new(alloc))
+    op_with(alloc, b"func.return", none, &[n], Items::new(alloc))
 }
 
 /// A function of one argument, with value 0.
@@ -106,9 +60,7 @@ fn func(alloc: Global, name: &[u8], ops: OpList) -> Result<FuncTree, NoMemory>
         args,
         ops,
     };
-    let region = RegionTree {
-        blocks: one(alloc, block)?,
-    };
+    let region = region(alloc, block)?;
     let name = AttrTree::Str(text(alloc, name)?);
     let op = OpTree {
         name: text(alloc, b"func.func")?,
@@ -162,30 +114,18 @@ fn three(alloc: Global) -> Result<ModuleTree, NoMemory>
     })
 }
 
-/// An operation on one line: name, properties, results and operands.
-fn put_op(out: &mut Bytes, op: &OpTree) -> Result<(), NoMemory> {
-    out.put(op.name.as_slice())?;
-    out.put(b" <")?;
-    put_dict(out, op.props.as_slice())?;
-    out.put(b">")?;
-    for result in op.results.as_slice() {
-        out.put(b" =")?;
-        out.put_number(u64::from(result.0))?;
-    }
-    for operand in op.operands.as_slice() {
-        out.put(b" %")?;
-        out.put_number(u64::from(*operand))?;
-    }
+fn put_line(out: &mut Bytes, op: &OpTree) -> Result<(), NoMemory> {
+    put_op(out, op)?;
     out.put(b"\n")
 }
 
 /// The operations of the blocks of a function, itself first.
 fn put_func(out: &mut Bytes, func: &FuncTree) -> Result<(), NoMemory> {
-    put_op(out, &func.op)?;
+    put_line(out, &func.op)?;
     for region in func.op.regions.as_slice() {
         for block in region.blocks.as_slice() {
             for op in block.ops.as_slice() {
-                put_op(out, op)?;
+                put_line(out, op)?;
             }
         }
     }
@@ -200,16 +140,16 @@ fn each_function_of_a_module_is_converted(rt: HostRuntime) -> Result<(), Fail> {
     for func in converted.funcs.as_slice() {
         put_func(&mut got, func)?;
     }
-    let want = "func.func <sym_name = \"f\">
-llvm.mlir.constant <value = 5 : i32> =1
-llvm.mlir.constant <value = 6 : i32> =2
-llvm.add <overflowFlags = #llvm.overflow<none>> =3 %1 %2
-func.return <> %3
-func.func <sym_name = \"g\">
-func.return <> %0
-func.func <sym_name = \"h\">
-llvm.add <overflowFlags = #llvm.overflow<none>> =1 %0 %0
-func.return <> %1
+    let want = "func.func <sym_name = \"f\"> 0
+1:i32 llvm.mlir.constant <value = 5 : i32> 0
+2:i32 llvm.mlir.constant <value = 6 : i32> 0
+3:i32 llvm.add %1 %2 <overflowFlags = #llvm.overflow<none>> 0
+func.return %3 <> 0
+func.func <sym_name = \"g\"> 0
+func.return %0 <> 0
+func.func <sym_name = \"h\"> 0
+1:i32 llvm.add %0 %0 <overflowFlags = #llvm.overflow<none>> 0
+func.return %1 <> 0
 ";
     assert_eq!(rt; got.as_slice(), want.as_bytes());
     Ok(())
@@ -223,7 +163,7 @@ fn a_function_without_arith_is_the_same(rt: HostRuntime) -> Result<(), Fail> {
     put_func(&mut got, &converted)?;
     assert_eq!(rt;
         got.as_slice(),
-        b"func.func <sym_name = \"g\">\nfunc.return <> %0\n".as_slice()
+        b"func.func <sym_name = \"g\"> 0\nfunc.return %0 <> 0\n".as_slice()
     );
     Ok(())
 }

@@ -1,4 +1,6 @@
-use crate::{LexKind, Lexer, TokenKind, tokens};
+//! The tokens of texts, and their first faults.
+
+use mlir_lex::{LexKind, Lexer, TokenKind, tokens};
 use std::alloc::{AllocError, Global};
 use std::process::Abort;
 use std::test::Fail;

@@ -1,4 +1,6 @@
-use crate::{Diag, merge};
+//! The order of diagnostics.
+
+use ordered_diags::{Diag, merge};
 use std::alloc::Global;
 use std::process::Abort;
 use std::test::Fail;

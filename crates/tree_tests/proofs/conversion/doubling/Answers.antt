@@ -1,8 +1,8 @@
 use Rattle.std.proofs.Common.{[], ◌∷◌, refl, Some}
 use Rattle.std.specs.Prelude.{codes}
 use Rattle.lowering_model.specs.FirstFunctions.{Addition, Return}
-use Rattle.conv_driver.proofs.ConversionLemmas.{first_over}
-use Rattle.conv_driver.proofs.tests.doubling.Goals as goal
+use Rattle.tree_tests.proofs.FirstOver.{first_over}
+use Rattle.tree_tests.proofs.conversion.doubling.Goals as goal
 
 pub returns : goal.returns
 returns c = first_over _ _ (Addition 1 0 0 (Some (codes "none" ∷ [])) ∷ Return 1 ∷ []) c.func.ensures
