@@ -3,8 +3,6 @@
 
 mod scan;
 
-pub use scan::{is_bare_byte, is_digit, starts_bare};
-
 ghost use Rattle.std.specs.Prelude.{◌≡◌, ℕ, ◌+◌, ◌^◌, ◌<◌, ◌≤◌, drop, length, IfOk, IfSome, All};
 ghost use Rattle.mlir_lex.specs.Laws.{CutsOnce, FaultIsFirst, OnlyGapsBetween, SpansAreInOrder, TokensAreLongest};
 ghost use Rattle.mlir_lex.specs.Scan.{outcome_after};
@@ -12,6 +10,7 @@ ghost use Rattle.mlir_lex.specs.Text.{next_of, Outcome, rest_of};
 ghost use Rattle.mlir_lex.specs.Text.{Lexes};
 
 use crate::scan::read_first;
+pub use scan::{is_bare_byte, is_digit, starts_bare};
 use std::alloc::Global;
 use std::marker::Model;
 
