@@ -7,7 +7,6 @@ use Rattle.mlir_lex.proofs.Once.{lexes_once}
 use Rattle.tree_model.specs.declared.op_tree.ModuleTree.{ModuleTree}
 use Rattle.grammar_model.specs.declared.Stop.{Stop}
 use Rattle.grammar_model.specs.declared.Stop.TheVariants.{At}
-use Rattle.grammar_model.specs.Syntax.{Syntax}
 use Rattle.grammar_model.specs.Expected.{whole_of}
 use Rattle.grammar_model.specs.Stopping.{Gives}
 use Rattle.grammar_model.proofs.Whole.{gives_found, gives_only}

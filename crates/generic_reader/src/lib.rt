@@ -9,6 +9,7 @@ mod kinds;
 mod makers;
 mod names;
 mod parts;
+mod scope;
 mod slices;
 mod trees;
 mod unique;

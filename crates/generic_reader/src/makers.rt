@@ -3,9 +3,11 @@
 ghost use Rattle.std.specs.Prelude.{◌≡◌, [], ◌∷◌, ℕ, List, IfOk, length, codes};
 ghost use Rattle.tree_model.specs.declared.attr_tree.AttrTree as attr;
 ghost use Rattle.text_model.specs.FirstNames.{flags_of, i32 as i32_type, in_scope, maker_op, maker_resolves, number_of, plain_op};
+ghost use Rattle.generic_reader.specs.Scopes.{Stands};
 ghost use Rattle.generic_reader.specs.When.{when};
 
-use crate::names::{place_of, read_integer};
+use crate::names::read_integer;
+use crate::scope::Scope;
 use sqlite_items::Items;
 use std::alloc::{AllocError, Global};
 use text_model::first::{Maker, Word};
@@ -50,8 +52,8 @@ fn entry(alloc: Global, name: &[u8], value: AttrTree) -> Result<DictTree, AllocE
 }
 
 /// The one result of an operation, with the next number.
-fn next_value(alloc: Global, scope: &[Word]) -> Result<ValueList, AllocError>
-    ensures { IfOk result (λ values. values ≡ (length scope.now, i32_type) ∷ []) }
+fn next_value(alloc: Global, scope: &Scope) -> Result<ValueList, AllocError>
+    ensures { IfOk result (λ values. values ≡ (length scope.now.words.items, i32_type) ∷ []) }
 {
     let mut values = Items::new(alloc);
     values.push((number(scope.len())?, TypeTree::Int(32)))?;
@@ -59,8 +61,8 @@ fn next_value(alloc: Global, scope: &[Word]) -> Result<ValueList, AllocError>
 }
 
 /// A constant that makes the next value.
-fn constant_op(alloc: Global, scope: &[Word], value: i64) -> Result<OpTree, AllocError>
-    ensures { IfOk result (λ op. op ≡ plain_op (codes "arith.constant") ((length scope.now, i32_type) ∷ []) [] ((codes "value", attr.Int value i32_type) ∷ [])) }
+fn constant_op(alloc: Global, scope: &Scope, value: i64) -> Result<OpTree, AllocError>
+    ensures { IfOk result (λ op. op ≡ plain_op (codes "arith.constant") ((length scope.now.words.items, i32_type) ∷ []) [] ((codes "value", attr.Int value i32_type) ∷ [])) }
 {
     let props = entry(alloc, b"value", AttrTree::Int(value, TypeTree::Int(32)))?;
     let results = next_value(alloc, scope)?;
@@ -83,12 +85,12 @@ fn flags_of(alloc: Global, flags: bool) -> Result<DictTree, AllocError>
 /// An addition of the values with these numbers, that makes the next value.
 fn sum_op(
     alloc: Global,
-    scope: &[Word],
+    scope: &Scope,
     left: usize,
     right: usize,
     flags: bool,
 ) -> Result<OpTree, AllocError>
-    ensures { IfOk result (λ op. op ≡ plain_op (codes "arith.addi") ((length scope.now, i32_type) ∷ []) (left ∷ right ∷ []) (flags_of flags)) }
+    ensures { IfOk result (λ op. op ≡ plain_op (codes "arith.addi") ((length scope.now.words.items, i32_type) ∷ []) (left ∷ right ∷ []) (flags_of flags)) }
 {
     let operands = vec![in alloc; number(left)?, number(right)?]?;
     let results = next_value(alloc, scope)?;
@@ -106,10 +108,11 @@ fn sum_op(
 pub fn maker_op(
     alloc: Global,
     text: &[u8],
-    scope: &[Word],
+    scope: &Scope,
     maker: Maker,
 ) -> Result<Option<OpTree>, AllocError>
-    ensures { IfOk result (λ op. op ≡ when (maker_resolves text.now scope.now maker) (maker_op text.now scope.now maker)) }
+    requires { Stands text.now scope.now }
+    ensures { IfOk result (λ op. op ≡ when (maker_resolves text.now scope.now.words.items maker) (maker_op text.now scope.now.words.items maker)) }
 {
     match maker {
         Maker::Constant { negative, digits } => match read_integer(text, negative, digits) {
@@ -123,14 +126,15 @@ pub fn maker_op(
 fn sum_of(
     alloc: Global,
     text: &[u8],
-    scope: &[Word],
+    scope: &Scope,
     left: Word,
     right: Word,
     flags: bool,
 ) -> Result<Option<OpTree>, AllocError>
-    ensures { IfOk result (λ op. op ≡ when (maker_resolves text.now scope.now (Maker.Sum left right flags)) (maker_op text.now scope.now (Maker.Sum left right flags))) }
+    requires { Stands text.now scope.now }
+    ensures { IfOk result (λ op. op ≡ when (maker_resolves text.now scope.now.words.items (Maker.Sum left right flags)) (maker_op text.now scope.now.words.items (Maker.Sum left right flags))) }
 {
-    match (place_of(text, scope, left), place_of(text, scope, right)) {
+    match (scope.place_of(text, left), scope.place_of(text, right)) {
         (Some(left), Some(right)) => Ok(Some(sum_op(alloc, scope, left, right, flags)?)),
         _ => Ok(None),
     }
@@ -140,13 +144,14 @@ fn sum_of(
 pub fn return_op(
     alloc: Global,
     text: &[u8],
-    scope: &[Word],
+    scope: &Scope,
     answer: Word,
 ) -> Result<Option<OpTree>, AllocError>
-    ensures { IfOk result (λ op. op ≡ when (in_scope text.now scope.now answer)
-        (plain_op (codes "func.return") [] (number_of text.now scope.now answer ∷ []) [])) }
+    requires { Stands text.now scope.now }
+    ensures { IfOk result (λ op. op ≡ when (in_scope text.now scope.now.words.items answer)
+        (plain_op (codes "func.return") [] (number_of text.now scope.now.words.items answer ∷ []) [])) }
 {
-    let Some(place) = place_of(text, scope, answer) else {
+    let Some(place) = scope.place_of(text, answer) else {
         return Ok(None);
     };
     let operands = vec![in alloc; number(place)?]?;

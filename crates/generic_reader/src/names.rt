@@ -1,7 +1,7 @@
 //! The names and numbers of a first text.
 
-ghost use Rattle.std.specs.Prelude.{◌≡◌, ◌^◌, [], min, if◌then◌else◌, Some, None};
-ghost use Rattle.text_model.specs.FirstNames.{args_resolve, bytes_of, decimal_value, in_scope, is_in_range, is_reserved, name_of, place_of, signed};
+ghost use Rattle.std.specs.Prelude.{◌≡◌, ◌^◌, min, if◌then◌else◌, Some, None};
+ghost use Rattle.text_model.specs.FirstNames.{bytes_of, decimal_value, is_in_range, is_reserved, name_of, signed};
 
 use crate::slices::{between, inside, same};
 use text_model::first::{FirstFunc, Word};
@@ -11,35 +11,6 @@ pub fn bytes_of(text: &[u8], word: Word) -> &[u8]
     ensures { result.now ≡ bytes_of text.now word }
 {
     between(text, word.start as usize, word.end as usize)
-}
-
-/// Where the name of the word stands among the names in scope.
-pub fn place_of(text: &[u8], scope: &[Word], word: Word) -> Option<usize>
-    ensures { result ≡ place_of text.now scope.now word }
-{
-    let name = bytes_of(text, word);
-    scope
-        .iter()
-        .position(|other| same(bytes_of(text, *other), name))
-}
-
-/// Whether the name of the word is in scope.
-pub fn in_scope(text: &[u8], scope: &[Word], word: Word) -> bool
-    ensures { result ≡ in_scope text.now scope.now word }
-{
-    place_of(text, scope, word).is_some()
-}
-
-/// Whether no argument has the name of one before it.
-pub fn args_resolve(text: &[u8], args: &[Word]) -> bool
-    ensures { result ≡ args_resolve text.now [] args.now }
-{
-    'each: for (index, arg) in args.iter().enumerate() {
-        if in_scope(text, &args[..index], *arg) {
-            return false;
-        }
-    }
-    true
 }
 
 /// The name of a function, without its quotes.

@@ -4,10 +4,12 @@ ghost use Rattle.std.specs.Prelude.{◌≡◌, ◌++◌, [], ◌∷◌, ℕ, Lis
 ghost use Rattle.tree_model.specs.declared.type_tree.TypeTree.{TypeTree};
 ghost use Rattle.tree_model.specs.declared.type_tree.TypeTree as type;
 ghost use Rattle.text_model.specs.FirstNames.{block_tree, func_resolves, func_tree, funcs_resolve, i32 as i32_type, line_ops, lines_resolve, module_tree, numbered, resolves, signature_props};
+ghost use Rattle.generic_reader.specs.Scopes.{Stands};
 ghost use Rattle.generic_reader.specs.When.{when};
 
 use crate::makers::{maker_op, number, return_op};
-use crate::names::{args_resolve, in_scope, name_of};
+use crate::names::name_of;
+use crate::scope::{Scope, scope_of};
 use crate::unique::names_stand;
 use sqlite_items::Items;
 use std::alloc::{AllocError, Global};
@@ -17,40 +19,44 @@ use tree_model::{
     RegionTree, TypeList, TypeTree, ValueList,
 };
 
-/// The operations of the lines, where their names are in order, behind names that are in scope.
-fn line_ops(
+/// The operations of the lines, where their names are in order, behind arguments that are in scope.
+fn line_ops<'t>(
     alloc: Global,
-    text: &[u8],
+    text: &'t [u8],
     args: &[Word],
+    args_scope: Scope<'t>,
     lines: &[Line],
     answer: Word,
 ) -> Result<Option<OpList>, AllocError>
+    requires args { args_scope.words.items ≡ args.now }
+    requires stands { Stands text.now args_scope }
     ensures { IfOk result (λ ops. ops ≡ when (lines_resolve text.now args.now lines.now answer) (line_ops text.now args.now lines.now answer)) }
 {
-    let mut scope = Vec::from_slice(alloc, args)?;
+    let mut scope = args_scope;
     let mut ops = Items::new(alloc);
     'each: for line in lines {
-        let Some(op) = maker_op(alloc, text, scope.as_slice(), line.maker)? else {
+        let Some(op) = maker_op(alloc, text, &scope, line.maker)? else {
             return Ok(None);
         };
-        if in_scope(text, scope.as_slice(), line.name) {
+        if scope.has(text, line.name) {
             return Ok(None);
         }
         ops.push(op)?;
-        scope.push(line.name)?;
+        scope.push(text, line.name)?;
     }
-    end_ops(alloc, text, scope.as_slice(), ops, answer)
+    end_ops(alloc, text, &scope, ops, answer)
 }
 
 /// The operations with the return behind them, where its value is in scope.
 fn end_ops(
     alloc: Global,
     text: &[u8],
-    scope: &[Word],
+    scope: &Scope,
     ops: OpList,
     answer: Word,
 ) -> Result<Option<OpList>, AllocError>
-    ensures { IfOk result (λ all. all ≡ when (lines_resolve text.now scope.now [] answer) (ops ++ line_ops text.now scope.now [] answer)) }
+    requires { Stands text.now scope.now }
+    ensures { IfOk result (λ all. all ≡ when (lines_resolve text.now scope.now.words.items [] answer) (ops ++ line_ops text.now scope.now.words.items [] answer)) }
 {
     let mut all = ops;
     match return_op(alloc, text, scope, answer)? {
@@ -130,18 +136,35 @@ fn func_with(
     Ok(FuncTree { op })
 }
 
+/// The tree of a function whose arguments are in scope, where the names of its lines are in order.
+fn tree_in<'t>(
+    alloc: Global,
+    text: &'t [u8],
+    scope: Scope<'t>,
+    func: &FirstFunc,
+) -> Result<Option<FuncTree>, AllocError>
+    requires args { scope.words.items ≡ func.now.args }
+    requires stands { Stands text.now scope }
+    ensures { IfOk result (λ f. f ≡ when (lines_resolve text.now func.now.args func.now.lines func.now.answer) (func_tree text.now func.now)) }
+{
+    let args = func.args.as_slice();
+    let Some(ops) = line_ops(alloc, text, args, scope, func.lines.as_slice(), func.answer)? else {
+        return Ok(None);
+    };
+    Ok(Some(func_with(alloc, text, func, ops)?))
+}
+
 /// The tree of a function whose names are in order.
 fn func_tree(alloc: Global, text: &[u8], func: &FirstFunc) -> Result<Option<FuncTree>, AllocError>
     ensures { IfOk result (λ f. f ≡ when (func_resolves text.now func.now) (func_tree text.now func.now)) }
 {
-    let args = func.args.as_slice();
-    if args.len() != func.inputs.len() || !args_resolve(text, args) {
+    if func.args.len() != func.inputs.len() {
         return Ok(None);
     }
-    let Some(ops) = line_ops(alloc, text, args, func.lines.as_slice(), func.answer)? else {
-        return Ok(None);
-    };
-    Ok(Some(func_with(alloc, text, func, ops)?))
+    match scope_of(alloc, text, func.args.as_slice())? {
+        None => Ok(None),
+        Some(scope) => tree_in(alloc, text, scope, func),
+    }
 }
 
 /// The trees of functions that are in order, each by itself.
