@@ -1,6 +1,7 @@
 #!/usr/bin/env bash
-# Times the built program on modules of 2,000, 10,000 and 20,000 functions of four operations each, and prints the
-# seconds and the peak memory. The time is to be linear in the number of functions, and below 2 s for 10,000.
+# Times the built program on modules of 2,000, 10,000 and 20,000 functions of four operations each, and on modules of
+# one function of 10,000, 40,000 and 80,000 additions, and prints the seconds and the peak memory. The time is to be
+# linear in both, and below 2 s for 10,000 functions.
 set -eu
 top=$(cd "$(dirname "$0")/.." && pwd)
 program=$top/crates/mlir_lower/out/mlir_lower
@@ -25,8 +26,25 @@ module() {
     }'
 }
 
-for functions in 2000 10000 20000; do
-    module "$functions" >"$work/in"
+# A module of one function of so many additions.
+long_function() {
+    awk -v count="$1" 'BEGIN {
+        print "\"builtin.module\"() ({"
+        print "  \"func.func\"() <{function_type = (i32) -> i32, sym_name = \"f\"}> ({"
+        print "  ^bb0(%arg0: i32):"
+        value = "%arg0"
+        for (i = 0; i < count; i++) {
+            print "    %" i " = \"arith.addi\"(" value ", %arg0) : (i32, i32) -> i32"
+            value = "%" i
+        }
+        print "    \"func.return\"(" value ") : (i32) -> ()"
+        print "  }) : () -> ()"
+        print "}) : () -> ()"
+    }'
+}
+
+# Runs the program on the module in $work/in, which stands as it is printed, and tells how long it took.
+measure() {
     /usr/bin/env bash -c 'TIMEFORMAT=%R; time "$0" <"$1" >"$2"' "$program" "$work/in" "$work/out" 2>"$work/time"
     cmp "$work/in" "$work/out"
     peak=$(python3 - "$program" "$work/in" <<'P'
@@ -36,5 +54,14 @@ with open(sys.argv[2], "rb") as text:
 print(resource.getrusage(resource.RUSAGE_CHILDREN).ru_maxrss // 1024)
 P
 )
-    echo "$functions functions, $(stat -c %s "$work/in") bytes: $(cat "$work/time") s, $peak MB"
+    echo "$1, $(stat -c %s "$work/in") bytes: $(cat "$work/time") s, $peak MB"
+}
+
+for functions in 2000 10000 20000; do
+    module "$functions" >"$work/in"
+    measure "$functions functions"
+done
+for additions in 10000 40000 80000; do
+    long_function "$additions" >"$work/in"
+    measure "one function of $additions additions"
 done
