@@ -19,23 +19,20 @@ use tree_model::{
     RegionTree, TypeList, TypeTree, ValueList,
 };
 
-/// The operations of the lines, where their names are in order, behind arguments that are in scope.
+/// The operations of the lines, where their names are in order behind those in scope. They are in scope then too.
 fn line_ops<'t>(
     alloc: Global,
     text: &'t [u8],
-    args: &[Word],
-    args_scope: Scope<'t>,
+    scope: &mut Scope<'t>,
     lines: &[Line],
     answer: Word,
 ) -> Result<Option<OpList>, AllocError>
-    requires args { args_scope.words.items ≡ args.now }
-    requires stands { Stands text.now args_scope }
-    ensures { IfOk result (λ ops. ops ≡ when (lines_resolve text.now args.now lines.now answer) (line_ops text.now args.now lines.now answer)) }
+    requires { Stands text.now scope.now }
+    ensures { IfOk result (λ ops. ops ≡ when (lines_resolve text.now scope.old.words.items lines.now answer) (line_ops text.now scope.old.words.items lines.now answer)) }
 {
-    let mut scope = args_scope;
     let mut ops = Items::new(alloc);
     'each: for line in lines {
-        let Some(op) = maker_op(alloc, text, &scope, line.maker)? else {
+        let Some(op) = maker_op(alloc, text, scope, line.maker)? else {
             return Ok(None);
         };
         if scope.has(text, line.name) {
@@ -44,7 +41,7 @@ fn line_ops<'t>(
         ops.push(op)?;
         scope.push(text, line.name)?;
     }
-    end_ops(alloc, text, &scope, ops, answer)
+    end_ops(alloc, text, scope, ops, answer)
 }
 
 /// The operations with the return behind them, where its value is in scope.
@@ -140,15 +137,14 @@ fn func_with(
 fn tree_in<'t>(
     alloc: Global,
     text: &'t [u8],
-    scope: Scope<'t>,
+    scope: &mut Scope<'t>,
     func: &FirstFunc,
 ) -> Result<Option<FuncTree>, AllocError>
-    requires args { scope.words.items ≡ func.now.args }
-    requires stands { Stands text.now scope }
+    requires args { scope.now.words.items ≡ func.now.args }
+    requires stands { Stands text.now scope.now }
     ensures { IfOk result (λ f. f ≡ when (lines_resolve text.now func.now.args func.now.lines func.now.answer) (func_tree text.now func.now)) }
 {
-    let args = func.args.as_slice();
-    let Some(ops) = line_ops(alloc, text, args, scope, func.lines.as_slice(), func.answer)? else {
+    let Some(ops) = line_ops(alloc, text, scope, func.lines.as_slice(), func.answer)? else {
         return Ok(None);
     };
     Ok(Some(func_with(alloc, text, func, ops)?))
@@ -163,7 +159,7 @@ fn func_tree(alloc: Global, text: &[u8], func: &FirstFunc) -> Result<Option<Func
     }
     match scope_of(alloc, text, func.args.as_slice())? {
         None => Ok(None),
-        Some(scope) => tree_in(alloc, text, scope, func),
+        Some(mut scope) => tree_in(alloc, text, &mut scope, func),
     }
 }
 
