@@ -1,4 +1,4 @@
-pub mod Joined
-pub mod NameText
-pub mod TypeText
-pub mod AttrText
+-- What contracts say of names and of what the makers make.
+pub mod Known
+pub mod Forms
+pub mod Makers
