@@ -3,7 +3,7 @@ use Rattle.std.proofs.Common.{◌≡◌, ◌⊎◌, inl, inr, ℕ, ◌<◌, ◌�
 use Rattle.std.proofs.lemmas.Bool.{false≢true}
 use Rattle.mlir_lex.specs.declared.TokenKind.{TokenKind}
 use Rattle.mlir_lex.specs.declared.TokenKind.TheVariants.{Bare, ValueName, BlockName, AttrName, TypeName, SymbolName, Text, Number, Sign}
-use Rattle.mlir_lex.specs.Bytes.{is_word, is_digit, is_letter, starts_bare, is_bare_byte, is_sign}
+use Rattle.mlir_lex.specs.Bytes.{is_digit, is_letter, starts_bare, is_bare_byte, is_sign}
 use Rattle.mlir_lex.specs.Tokens.{is_run, IsSuffix, IsNumber, IsString, IsName, IsSymbol, IsSign, IsToken}
 use Rattle.mlir_lex.specs.Scan.{begins, behind, string_len, suffix_len, symbol_tail_len, sign_len, kind_of, kind_at, length_of}
 use Rattle.mlir_lex.proofs.Lengths.{Parts, and-left, and-right, and-both, or-cases, eqb-is, parts-map, parts-cons, digit-not-bare, bare-goes-on, run-front, word-first, suffix-parts, suffix-front, suffix-no-quote, number-parts, number-front}
