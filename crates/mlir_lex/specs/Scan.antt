@@ -1,5 +1,5 @@
 -- What the lexer computes, length by length. `Text` says what it means, and the laws of proofs/ tie the two.
-use Rattle.std.specs.Prelude.{ℕ, ◌+◌, ◌==◌, suc, zero, Bool, true, false, ◌&&◌, if◌then◌else◌, List, [], ◌∷◌, length, drop, take_while, Option, Some, None, Result, Ok, Err}
+use Rattle.std.specs.Prelude.{◌≡◌, ℕ, ◌+◌, ◌==◌, suc, zero, Bool, true, false, ◌&&◌, if◌then◌else◌, List, [], ◌∷◌, length, drop, take_while, Option, Some, None, Result, Ok, Err}
 use Rattle.mlir_lex.specs.declared.Token.{Token}
 use Rattle.mlir_lex.specs.declared.TokenKind.{TokenKind}
 use Rattle.mlir_lex.specs.declared.TokenKind.TheVariants.{Bare, ValueName, BlockName, AttrName, TypeName, SymbolName, Text, Number, Sign}
@@ -7,6 +7,10 @@ use Rattle.mlir_lex.specs.declared.LexFault.{LexFault}
 use Rattle.mlir_lex.specs.declared.LexKind.TheVariants.{BadByte, OpenString, BadEscape}
 use Rattle.mlir_lex.specs.Text.{Outcome}
 use Rattle.mlir_lex.specs.Bytes.{is_blank, is_on_line, is_digit, is_hex_digit, starts_bare, is_bare_byte, starts_suffix, is_suffix_byte, is_plain, is_short_escape, is_sign}
+
+-- what a test of bytes may answer is whether the byte is of the class
+abbrev pub Tests : (ℕ → Bool → Type 0) → (ℕ → Bool) → Type 0
+Tests answers class = (b : ℕ) (is : Bool) → answers b is → is ≡ class b
 
 -- how many bytes of the class the text begins with
 unfoldable pub run : (ℕ → Bool) → List ℕ → ℕ

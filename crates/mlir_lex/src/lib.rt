@@ -1,6 +1,7 @@
 //! The lexer of MLIR's generic text: cuts a text into tokens, each the longest that fits, and tells the first fault.
 #![tactic(auto)]
 
+mod bytes;
 mod scan;
 
 ghost use Rattle.std.specs.Prelude.{◌≡◌, ℕ, ◌+◌, ◌^◌, ◌<◌, ◌≤◌, drop, length, IfOk, IfSome, All};
@@ -10,7 +11,7 @@ ghost use Rattle.mlir_lex.specs.Text.{next_of, Outcome, rest_of};
 ghost use Rattle.mlir_lex.specs.Text.{Lexes};
 
 use crate::scan::read_first;
-pub use scan::{is_bare_byte, is_digit, starts_bare};
+pub use bytes::{is_bare, is_bare_byte, is_digit, starts_bare};
 use std::alloc::Global;
 use std::marker::Model;
 

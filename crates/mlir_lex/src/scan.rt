@@ -1,109 +1,13 @@
 //! The lengths of what may stand at the head of a text.
 
-ghost use Rattle.std.specs.Prelude.{◌≡◌, ℕ, ◌+◌, ◌^◌, ◌<◌, ◌≤◌, drop, length, true, false, not, ◌-◌, ◌==◌, ◌&&◌, IfOk, IfSome};
-ghost use Rattle.mlir_lex.specs.Bytes.{is_bare_byte, is_blank, is_digit, is_hex_digit, is_letter, is_on_line, is_plain, is_short_escape, is_sign, is_suffix_byte, starts_bare, starts_suffix};
-ghost use Rattle.mlir_lex.specs.Scan.{begins, behind, closes, comment_len, escape_len, fault_at, gap_len, gap_piece, inside_len, kind_of, length_of, next_is, number_len, pieces, read_clear, read_first, run, sign_len, string_fault, string_len, string_piece, suffix_len, symbol_tail_len, token_len};
+ghost use Rattle.std.specs.Prelude.{◌≡◌, ℕ, Bool, ◌+◌, ◌^◌, ◌<◌, ◌≤◌, drop, length, true, false, not, ◌-◌, ◌==◌, ◌&&◌, IfOk, IfSome};
+ghost use Rattle.mlir_lex.specs.Scan.{begins, behind, Tests, closes, comment_len, escape_len, fault_at, gap_len, gap_piece, inside_len, kind_of, length_of, next_is, number_len, pieces, read_clear, read_first, run, sign_len, string_fault, string_len, string_piece, suffix_len, symbol_tail_len, token_len};
 
+use crate::bytes::{
+    is_bare_byte, is_blank, is_digit, is_hex_digit, is_on_line, is_plain, is_short_escape, is_sign,
+    is_suffix_byte, starts_bare, starts_suffix,
+};
 use crate::{LexFault, LexKind, Token, TokenKind};
-
-#[tactic(auto, unfolding(crate::specs::Bytes::is_blank))]
-fn is_blank(b: u8) -> bool
-    ensures { result ≡ is_blank b }
-{
-    b == b' ' || b == b'\t' || b == b'\r' || b == b'\n'
-}
-
-#[tactic(auto, unfolding(crate::specs::Bytes::is_on_line))]
-fn is_on_line(b: u8) -> bool
-    ensures { result ≡ is_on_line b }
-{
-    b != b'\n'
-}
-
-/// A digit of ASCII.
-#[tactic(auto, unfolding(crate::specs::Bytes::is_digit))]
-pub fn is_digit(b: u8) -> bool
-    ensures { result ≡ is_digit b }
-{
-    b >= b'0' && b <= b'9'
-}
-
-#[tactic(auto, unfolding(crate::specs::Bytes::is_hex_digit))]
-fn is_hex_digit(b: u8) -> bool
-    ensures { result ≡ is_hex_digit b }
-{
-    is_digit(b) || (b >= b'A' && b <= b'F') || (b >= b'a' && b <= b'f')
-}
-
-#[tactic(auto, unfolding(crate::specs::Bytes::is_letter))]
-fn is_letter(b: u8) -> bool
-    ensures { result ≡ is_letter b }
-{
-    (b >= b'a' && b <= b'z') || (b >= b'A' && b <= b'Z')
-}
-
-/// What a bare identifier begins with.
-#[tactic(auto, unfolding(crate::specs::Bytes::starts_bare))]
-pub fn starts_bare(b: u8) -> bool
-    ensures { result ≡ starts_bare b }
-{
-    is_letter(b) || b == b'_'
-}
-
-/// What stands in a bare identifier.
-#[tactic(auto, unfolding(crate::specs::Bytes::is_bare_byte))]
-pub fn is_bare_byte(b: u8) -> bool
-    ensures { result ≡ is_bare_byte b }
-{
-    is_letter(b) || is_digit(b) || b == b'_' || b == b'$' || b == b'.'
-}
-
-#[tactic(auto, unfolding(crate::specs::Bytes::starts_suffix))]
-fn starts_suffix(b: u8) -> bool
-    ensures { result ≡ starts_suffix b }
-{
-    is_letter(b) || b == b'_' || b == b'$' || b == b'.' || b == b'-'
-}
-
-#[tactic(auto, unfolding(crate::specs::Bytes::is_suffix_byte))]
-fn is_suffix_byte(b: u8) -> bool
-    ensures { result ≡ is_suffix_byte b }
-{
-    starts_suffix(b) || is_digit(b)
-}
-
-#[tactic(auto, unfolding(crate::specs::Bytes::is_plain))]
-fn is_plain(b: u8) -> bool
-    ensures { result ≡ is_plain b }
-{
-    is_on_line(b) && b != b'"' && b != b'\\'
-}
-
-#[tactic(auto, unfolding(crate::specs::Bytes::is_short_escape))]
-fn is_short_escape(b: u8) -> bool
-    ensures { result ≡ is_short_escape b }
-{
-    b == b'n' || b == b't' || b == b'\\' || b == b'"'
-}
-
-#[tactic(auto, unfolding(crate::specs::Bytes::is_sign))]
-fn is_sign(b: u8) -> bool
-    ensures { result ≡ is_sign b }
-{
-    b == b'('
-        || b == b')'
-        || b == b'['
-        || b == b']'
-        || b == b'{'
-        || b == b'}'
-        || b == b'<'
-        || b == b'>'
-        || b == b','
-        || b == b':'
-        || b == b'='
-        || b == b'?'
-        || b == b'-'
-}
 
 #[tactic(auto, unfolding(crate::specs::Scan::begins))]
 fn begins(b: u8, text: &[u8]) -> bool
@@ -116,102 +20,25 @@ fn begins(b: u8, text: &[u8]) -> bool
     }
 }
 
+/// How many bytes of the class the text begins with.
 #[tactic(auto, unfolding(crate::specs::Scan::run))]
-fn digit_run(text: &[u8]) -> usize
-    ensures run { result ≡ run is_digit text.now }
+fn run<F: Fn(u8) -> bool>(holds: F, text: &[u8]) -> usize
+    requires { F.IsAlwaysCallable holds }
+    ensures run { (class : ℕ → Bool) → Tests (F.post holds) class → result ≡ run class text.now }
     ensures bound { result ≤ length text.now }
 {
-    text.iter().take_while(|b| is_digit(**b)).count()
+    text.iter().take_while(|b| holds(**b)).count()
 }
 
-#[tactic(auto, unfolding(crate::specs::Scan::run))]
-fn hex_digit_run(text: &[u8]) -> usize
-    ensures run { result ≡ run is_hex_digit text.now }
-    ensures bound { result ≤ length text.now }
-{
-    text.iter().take_while(|b| is_hex_digit(**b)).count()
-}
-
-#[tactic(auto, unfolding(crate::specs::Scan::run))]
-fn bare_byte_run(text: &[u8]) -> usize
-    ensures run { result ≡ run is_bare_byte text.now }
-    ensures bound { result ≤ length text.now }
-{
-    text.iter().take_while(|b| is_bare_byte(**b)).count()
-}
-
-#[tactic(auto, unfolding(crate::specs::Scan::run))]
-fn suffix_byte_run(text: &[u8]) -> usize
-    ensures run { result ≡ run is_suffix_byte text.now }
-    ensures bound { result ≤ length text.now }
-{
-    text.iter().take_while(|b| is_suffix_byte(**b)).count()
-}
-
-#[tactic(auto, unfolding(crate::specs::Scan::run))]
-fn plain_run(text: &[u8]) -> usize
-    ensures run { result ≡ run is_plain text.now }
-    ensures bound { result ≤ length text.now }
-{
-    text.iter().take_while(|b| is_plain(**b)).count()
-}
-
-#[tactic(auto, unfolding(crate::specs::Scan::run))]
-fn blank_run(text: &[u8]) -> usize
-    ensures run { result ≡ run is_blank text.now }
-    ensures bound { result ≤ length text.now }
-{
-    text.iter().take_while(|b| is_blank(**b)).count()
-}
-
-#[tactic(auto, unfolding(crate::specs::Scan::run))]
-fn on_line_run(text: &[u8]) -> usize
-    ensures run { result ≡ run is_on_line text.now }
-    ensures bound { result ≤ length text.now }
-{
-    text.iter().take_while(|b| is_on_line(**b)).count()
-}
-
+/// Whether a byte of the class comes next.
 #[tactic(auto, unfolding(crate::specs::Scan::next_is))]
-fn next_is_digit(text: &[u8]) -> bool
-    ensures next { result ≡ next_is is_digit text.now }
+fn next_is<F: Fn(u8) -> bool>(holds: F, text: &[u8]) -> bool
+    requires { F.IsAlwaysCallable holds }
+    ensures next { (class : ℕ → Bool) → Tests (F.post holds) class → result ≡ next_is class text.now }
     ensures some { result ≡ true → 0 < length text.now }
 {
     match text.first() {
-        Some(first) => is_digit(*first),
-        None => false,
-    }
-}
-
-#[tactic(auto, unfolding(crate::specs::Scan::next_is))]
-fn next_is_hex_digit(text: &[u8]) -> bool
-    ensures next { result ≡ next_is is_hex_digit text.now }
-    ensures some { result ≡ true → 0 < length text.now }
-{
-    match text.first() {
-        Some(first) => is_hex_digit(*first),
-        None => false,
-    }
-}
-
-#[tactic(auto, unfolding(crate::specs::Scan::next_is))]
-fn next_starts_suffix(text: &[u8]) -> bool
-    ensures next { result ≡ next_is starts_suffix text.now }
-    ensures some { result ≡ true → 0 < length text.now }
-{
-    match text.first() {
-        Some(first) => starts_suffix(*first),
-        None => false,
-    }
-}
-
-#[tactic(auto, unfolding(crate::specs::Scan::next_is))]
-fn next_is_short_escape(text: &[u8]) -> bool
-    ensures next { result ≡ next_is is_short_escape text.now }
-    ensures some { result ≡ true → 0 < length text.now }
-{
-    match text.first() {
-        Some(first) => is_short_escape(*first),
+        Some(first) => holds(*first),
         None => false,
     }
 }
@@ -236,7 +63,7 @@ fn comment_len(text: &[u8]) -> usize
     ensures bound { result ≤ length text.now }
 {
     if begins(b'/', text) && begins(b'/', behind(text, 1)) {
-        2 + on_line_run(behind(text, 2))
+        2 + run(is_on_line, behind(text, 2))
     } else {
         0
     }
@@ -249,7 +76,7 @@ fn gap_step(text: &[u8]) -> usize
     ensures stops { result ≡ 0 → pieces gap_piece 0 text.now ≡ 0 }
     ensures bound { result ≤ length text.now }
 {
-    let blanks = blank_run(text);
+    let blanks = run(is_blank, text);
     if blanks > 0 {
         blanks
     } else {
@@ -281,9 +108,9 @@ fn escape_len(text: &[u8]) -> usize
 {
     if !begins(b'\\', text) {
         0
-    } else if next_is_short_escape(behind(text, 1)) {
+    } else if next_is(is_short_escape, behind(text, 1)) {
         2
-    } else if next_is_hex_digit(behind(text, 1)) && next_is_hex_digit(behind(text, 2)) {
+    } else if next_is(is_hex_digit, behind(text, 1)) && next_is(is_hex_digit, behind(text, 2)) {
         3
     } else {
         0
@@ -296,7 +123,7 @@ fn string_step(text: &[u8]) -> usize
     ensures stops { result ≡ 0 → pieces string_piece 0 text.now ≡ 0 }
     ensures bound { result ≤ length text.now }
 {
-    let plain = plain_run(text);
+    let plain = run(is_plain, text);
     if plain > 0 { plain } else { escape_len(text) }
 }
 
@@ -365,10 +192,10 @@ fn suffix_len(text: &[u8]) -> usize
     ensures len { result ≡ suffix_len text.now }
     ensures bound { result ≤ length text.now }
 {
-    if next_is_digit(text) {
-        digit_run(text)
-    } else if next_starts_suffix(text) {
-        suffix_byte_run(text)
+    if next_is(is_digit, text) {
+        run(is_digit, text)
+    } else if next_is(starts_suffix, text) {
+        run(is_suffix_byte, text)
     } else {
         0
     }
@@ -394,10 +221,13 @@ fn number_len(text: &[u8]) -> usize
     ensures len { result ≡ number_len text.now }
     ensures bound { result ≤ length text.now }
 {
-    if begins(b'0', text) && begins(b'x', behind(text, 1)) && next_is_hex_digit(behind(text, 2)) {
-        2 + hex_digit_run(behind(text, 2))
+    if begins(b'0', text)
+        && begins(b'x', behind(text, 1))
+        && next_is(is_hex_digit, behind(text, 2))
+    {
+        2 + run(is_hex_digit, behind(text, 2))
     } else {
-        digit_run(text)
+        run(is_digit, text)
     }
 }
 
@@ -463,7 +293,7 @@ fn length_of(kind: TokenKind, text: &[u8]) -> usize
     ensures bound { result ≤ length text.now }
 {
     match kind {
-        TokenKind::Bare => bare_byte_run(text),
+        TokenKind::Bare => run(is_bare_byte, text),
         TokenKind::ValueName => with_sign(suffix_len(behind(text, 1))),
         TokenKind::BlockName => with_sign(suffix_len(behind(text, 1))),
         TokenKind::AttrName => with_sign(suffix_len(behind(text, 1))),

@@ -5,14 +5,14 @@ use Rattle.mlir_lex.proofs.Runs.{pieces-run, pieces-step, pieces-stop, next_is-n
 use Rattle.mlir_lex.proofs.scan.string_step.Goals as goal
 
 pub returns-then-plain-gt0-clause-goes_on : goal.returns-then-plain-gt0-clause-goes_on
-returns-then-plain-gt0-clause-goes_on c = rw c.plain_run-plain.ensures.run (pieces-run string_piece is_plain string_piece-plain c.args.text.now)
+returns-then-plain-gt0-clause-goes_on c = rw (c.run-plain.ensures.run is_plain (λ b is e. e)) (pieces-run string_piece is_plain string_piece-plain c.args.text.now)
 
 pub returns-else-plain-gt0-clause-goes_on : goal.returns-else-plain-gt0-clause-goes_on
 returns-else-plain-gt0-clause-goes_on c =
-    let none = string_piece-escape c.args.text.now (next_is-no_run is_plain c.args.text.now (omega (arith, c.plain_run-plain.ensures.run))) in
+    let none = string_piece-escape c.args.text.now (next_is-no_run is_plain c.args.text.now (omega (arith, (c.run-plain.ensures.run is_plain (λ b is e. e))))) in
     pieces-step string_piece _ c.args.text.now (none ∙ sym c.escape_len.ensures.len) c.escape_len.ensures.bound
 
 pub returns-else-plain-gt0-clause-stops : goal.returns-else-plain-gt0-clause-stops
 returns-else-plain-gt0-clause-stops c h =
-    let none = string_piece-escape c.args.text.now (next_is-no_run is_plain c.args.text.now (omega (arith, c.plain_run-plain.ensures.run))) in
+    let none = string_piece-escape c.args.text.now (next_is-no_run is_plain c.args.text.now (omega (arith, (c.run-plain.ensures.run is_plain (λ b is e. e))))) in
     pieces-stop string_piece c.args.text.now (none ∙ sym c.escape_len.ensures.len ∙ h)
