@@ -1,6 +1,6 @@
 -- The printed text of a type.
 use Rattle.std.specs.Prelude.{ℕ, Bool, true, false, List, [], ◌∷◌, ◌++◌, if◌then◌else◌, map, flat_map, codes, decimal}
-use Rattle.tree_model.specs.Joined.{joined}
+use Rattle.tree_text.specs.Joined.{joined}
 use Rattle.tree_model.specs.declared.type_tree.Dim.{Dim}
 use Rattle.tree_model.specs.declared.type_tree.Dim.TheVariants.{Fixed, Dynamic}
 use Rattle.tree_model.specs.declared.type_tree.TypeTree.{TypeTree}

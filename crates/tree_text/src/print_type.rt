@@ -1,9 +1,9 @@
 ghost use Rattle.std.specs.Prelude.{◌≡◌, ◌++◌, IfOk, OnOk, map, flat_map};
-ghost use Rattle.tree_model.specs.Joined.{led_by};
-ghost use Rattle.tree_model.specs.TypeText.{printed, text_at, llvm_lead, listed, results_text, dim_text, type_text};
+ghost use Rattle.tree_text.specs.Joined.{led_by};
+ghost use Rattle.tree_text.specs.TypeText.{printed, text_at, llvm_lead, listed, results_text, dim_text, type_text};
 
-use crate::bytes::{Bytes, NoMemory};
-use crate::type_tree::{Dim, TypeTree};
+use tree_model::{Bytes, NoMemory};
+use tree_model::{Dim, TypeTree};
 use std::alloc::Global;
 
 /// The printed text of a type.

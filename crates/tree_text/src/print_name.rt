@@ -1,8 +1,8 @@
 ghost use Rattle.std.specs.Prelude.{◌≡◌, ◌<◌, [], ◌∷◌, ◌++◌, OnOk, flat_map};
 ghost use Rattle.std.specs.List.{list_all};
-ghost use Rattle.tree_model.specs.NameText.{is_letter, is_digit, begins_name, continues_name, is_bare, hex_digit, stands_plain, byte_text, string_text, name_text};
+ghost use Rattle.tree_text.specs.NameText.{is_letter, is_digit, begins_name, continues_name, is_bare, hex_digit, stands_plain, byte_text, string_text, name_text};
 
-use crate::bytes::{Bytes, NoMemory};
+use tree_model::{Bytes, NoMemory};
 
 fn is_letter(b: u8) -> bool
     ensures { result ≡ is_letter b }

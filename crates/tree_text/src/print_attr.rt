@@ -1,12 +1,12 @@
 ghost use Rattle.std.specs.Prelude.{◌≡◌, ◌++◌, IfOk, OnOk, map, codes};
-ghost use Rattle.tree_model.specs.Joined.{joined};
-ghost use Rattle.tree_model.specs.AttrText.{shown, is_bit, integer_text, dict_text, numbers_text, words_text, attr_text, value_text, bit_text};
+ghost use Rattle.tree_text.specs.Joined.{joined};
+ghost use Rattle.tree_text.specs.AttrText.{shown, is_bit, integer_text, dict_text, numbers_text, words_text, attr_text, value_text, bit_text};
 
-use crate::attr_tree::AttrTree;
-use crate::bytes::{Bytes, Name, NoMemory};
+use tree_model::AttrTree;
+use tree_model::{Bytes, Name, NoMemory};
 use crate::print_name::{put_name, put_string};
 use crate::print_type::put_type;
-use crate::type_tree::TypeTree;
+use tree_model::TypeTree;
 use std::alloc::Global;
 
 /// The printed text of an attribute.

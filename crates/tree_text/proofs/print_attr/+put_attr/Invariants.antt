@@ -1,8 +1,8 @@
 use Rattle.std.proofs.Common.{◌≡◌, ◌++◌, take, map}
 use Rattle.std.specs.Prelude.{codes}
-use Rattle.tree_model.specs.Joined.{led_by}
-use Rattle.tree_model.specs.AttrText.{shown, shown_entries, entry_text}
-use Rattle.tree_model.proofs.print_attr.+put_attr.Given as goal
+use Rattle.tree_text.specs.Joined.{led_by}
+use Rattle.tree_text.specs.AttrText.{shown, shown_entries, entry_text}
+use Rattle.tree_text.proofs.print_attr.+put_attr.Given as goal
 
 abbrev pub invariant-put_attrs-loop-a : goal.invariant-put_attrs-loop-a
 invariant-put_attrs-loop-a l = l.out ≡ l.initial.out ++ led_by (codes ", ") (map (λ s. s.text) (map shown (take l.a-index l.rest)))
