@@ -1,1 +1,3 @@
+mod GrewLaws
+mod TypeLaws
 mod ShownLaws

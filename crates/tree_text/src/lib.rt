@@ -1,6 +1,7 @@
 //! The printed texts of types and attributes.
 #![tactic(auto)]
 
+mod grow;
 mod print_attr;
 mod print_name;
 mod print_type;

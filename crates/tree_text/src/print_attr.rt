@@ -1,103 +1,137 @@
-ghost use Rattle.std.specs.Prelude.{◌≡◌, ◌++◌, IfOk, OnOk, map, codes};
+//! Prints attributes and dictionaries.
+ghost use Rattle.std.specs.Prelude.{◌≡◌, ◌++◌, IfOk, OnOk, OnErr, map, codes};
 ghost use Rattle.tree_text.specs.Joined.{joined};
+ghost use Rattle.tree_text.specs.Grew.{Grew};
 ghost use Rattle.tree_text.specs.AttrText.{shown, is_bit, integer_text, dict_text, numbers_text, words_text, attr_text, value_text, bit_text};
 
-use tree_model::AttrTree;
-use tree_model::{Bytes, Name, NoMemory};
-use crate::print_name::{put_name, put_string};
-use crate::print_type::put_type;
-use tree_model::TypeTree;
+use crate::grow::{add, add_number, add_signed};
+use crate::print_name::{add_name, add_string};
+use crate::print_type::add_type;
 use std::alloc::Global;
+use tree_model::{AttrTree, Bytes, Name, NoMemory, TypeTree};
 
 /// The printed text of an attribute.
 pub fn attr_text(alloc: Global, a: &AttrTree) -> Result<Bytes, NoMemory>
     ensures { IfOk result (λ text. text ≡ attr_text a.now) }
 {
     let mut out = Bytes::new(alloc);
-    put_attr(&mut out, a)?;
+    add_attr(&mut out, a)?;
     Ok(out)
 }
 
 /// Appends an attribute.
-#[cycle(put_attr)]
-#[tactic(auto, using(crate::proofs::ShownLaws::shown_laws))]
+#[tactic(auto, using(crate::proofs::GrewLaws::grew_laws))]
 pub fn put_attr(out: &mut Bytes, a: &AttrTree) -> Result<(), NoMemory>
-    ensures { OnOk result (out.new ≡ out.old ++ (shown a.now).text) }
+    ensures ok { OnOk result (out.new ≡ out.old ++ attr_text a.now) }
+    ensures err { OnErr result (out.new ≡ out.old) }
 {
-    match a {
-        AttrTree::Unit => out.put(b"unit"),
-        AttrTree::Int(value, t) => put_integer(out, *value, t),
-        AttrTree::Str(text) => put_string(out, text.as_slice()),
-        AttrTree::List(items) => {
-            out.put(b"[")?;
-            put_attrs(out, items.as_slice())?;
-            out.put(b"]")
-        }
-        AttrTree::Dict(entries) => {
-            out.put(b"{")?;
-            put_dict(out, entries.as_slice())?;
-            out.put(b"}")
-        }
-        AttrTree::OfType(t) => put_type(out, false, t),
-        AttrTree::Symbol(name) => {
-            out.put(b"@")?;
-            put_name(out, name.as_slice())
-        }
-        AttrTree::Ints(width, numbers) => {
-            out.put(b"array<i")?;
-            out.put_number(u64::from(*width))?;
-            put_numbers(out, numbers.as_slice())?;
-            out.put(b">")
-        }
-        AttrTree::Dialect(name, words) => {
-            out.put(b"#")?;
-            out.put(name.as_slice())?;
-            put_words(out, words.as_slice())
-        }
-    }
-}
-
-#[cycle(put_attr)]
-fn put_attrs(out: &mut Bytes, attrs: &[AttrTree]) -> Result<(), NoMemory>
-    ensures { OnOk result (out.new ≡ out.old
-        ++ joined (codes ", ") (map (λ s. s.text) (map shown attrs.now))) }
-{
-    if let [first, rest @ ..] = attrs {
-        put_attr(out, first)?;
-        for a in rest {
-            out.put(b", ")?;
-            put_attr(out, a)?;
-        }
+    let len = out.len();
+    if let Err(fault) = add_attr(out, a) {
+        out.truncate(len);
+        return Err(fault);
     }
     Ok(())
 }
 
 /// Appends the entries of a dictionary, without what stands round them.
-#[cycle(put_attr)]
+#[tactic(auto, using(crate::proofs::GrewLaws::grew_laws))]
 pub fn put_dict(out: &mut Bytes, entries: &[(Name, AttrTree)]) -> Result<(), NoMemory>
-    ensures { OnOk result (out.new ≡ out.old ++ dict_text entries.now) }
+    ensures ok { OnOk result (out.new ≡ out.old ++ dict_text entries.now) }
+    ensures err { OnErr result (out.new ≡ out.old) }
 {
-    if let [first, rest @ ..] = entries {
-        put_name(out, first.0.as_slice())?;
-        put_value(out, &first.1)?;
-        for entry in rest {
-            out.put(b", ")?;
-            put_name(out, entry.0.as_slice())?;
-            put_value(out, &entry.1)?;
+    let len = out.len();
+    if let Err(fault) = add_dict(out, entries) {
+        out.truncate(len);
+        return Err(fault);
+    }
+    Ok(())
+}
+
+#[cycle(add_attr)]
+#[tactic(auto, using(crate::proofs::ShownLaws::shown_laws))]
+fn add_attr(out: &mut Bytes, a: &AttrTree) -> Result<(), NoMemory>
+    ensures ok { OnOk result (out.new ≡ out.old ++ (shown a.now).text) }
+    ensures grew { Grew out.old out.new }
+{
+    match a {
+        AttrTree::Unit => add(out, b"unit"),
+        AttrTree::Int(value, t) => add_integer(out, *value, t),
+        AttrTree::Str(text) => add_string(out, text.as_slice()),
+        AttrTree::List(items) => {
+            add(out, b"[")?;
+            add_attrs(out, items.as_slice())?;
+            add(out, b"]")
+        }
+        AttrTree::Dict(entries) => {
+            add(out, b"{")?;
+            add_dict(out, entries.as_slice())?;
+            add(out, b"}")
+        }
+        AttrTree::OfType(t) => add_type(out, false, t),
+        AttrTree::Symbol(name) => {
+            add(out, b"@")?;
+            add_name(out, name.as_slice())
+        }
+        AttrTree::Ints(width, numbers) => {
+            add(out, b"array<i")?;
+            add_number(out, u64::from(*width))?;
+            add_numbers(out, numbers.as_slice())?;
+            add(out, b">")
+        }
+        AttrTree::Dialect(name, words) => {
+            add(out, b"#")?;
+            add(out, name.as_slice())?;
+            add_words(out, words.as_slice())
+        }
+    }
+}
+
+#[cycle(add_attr)]
+#[tactic(auto, using(crate::proofs::ShownLaws::shown_laws))]
+fn add_attrs(out: &mut Bytes, attrs: &[AttrTree]) -> Result<(), NoMemory>
+    ensures ok { OnOk result (out.new ≡ out.old
+        ++ joined (codes ", ") (map (λ s. s.text) (map shown attrs.now))) }
+    ensures grew { Grew out.old out.new }
+{
+    if let [first, rest @ ..] = attrs {
+        add_attr(out, first)?;
+        for a in rest {
+            add(out, b", ")?;
+            add_attr(out, a)?;
         }
     }
     Ok(())
 }
 
-#[cycle(put_attr)]
-fn put_value(out: &mut Bytes, a: &AttrTree) -> Result<(), NoMemory>
-    ensures { OnOk result (out.new ≡ out.old ++ value_text (shown a.now).is_unit (shown a.now).text) }
+#[cycle(add_attr)]
+#[tactic(auto, using(crate::proofs::ShownLaws::shown_laws))]
+fn add_dict(out: &mut Bytes, entries: &[(Name, AttrTree)]) -> Result<(), NoMemory>
+    ensures ok { OnOk result (out.new ≡ out.old ++ dict_text entries.now) }
+    ensures grew { Grew out.old out.new }
+{
+    if let [first, rest @ ..] = entries {
+        add_name(out, first.0.as_slice())?;
+        add_value(out, &first.1)?;
+        for entry in rest {
+            add(out, b", ")?;
+            add_name(out, entry.0.as_slice())?;
+            add_value(out, &entry.1)?;
+        }
+    }
+    Ok(())
+}
+
+#[cycle(add_attr)]
+#[tactic(auto, using(crate::proofs::ShownLaws::shown_laws))]
+fn add_value(out: &mut Bytes, a: &AttrTree) -> Result<(), NoMemory>
+    ensures ok { OnOk result (out.new ≡ out.old ++ value_text (shown a.now).is_unit (shown a.now).text) }
+    ensures grew { Grew out.old out.new }
 {
     if is_unit(a) {
         return Ok(());
     }
-    out.put(b" = ")?;
-    put_attr(out, a)
+    add(out, b" = ")?;
+    add_attr(out, a)
 }
 
 fn is_unit(a: &AttrTree) -> bool
@@ -118,51 +152,59 @@ fn is_bit(t: &TypeTree) -> bool
     }
 }
 
-fn put_integer(out: &mut Bytes, value: i64, t: &TypeTree) -> Result<(), NoMemory>
-    ensures { OnOk result (out.new ≡ out.old ++ integer_text value t.now) }
+#[tactic(auto, using(crate::proofs::GrewLaws::grew_laws))]
+fn add_integer(out: &mut Bytes, value: i64, t: &TypeTree) -> Result<(), NoMemory>
+    ensures ok { OnOk result (out.new ≡ out.old ++ integer_text value t.now) }
+    ensures grew { Grew out.old out.new }
 {
     if is_bit(t) {
-        return put_bit(out, value);
+        return add_bit(out, value);
     }
-    out.put_signed(value)?;
-    out.put(b" : ")?;
-    put_type(out, false, t)
+    add_signed(out, value)?;
+    add(out, b" : ")?;
+    add_type(out, false, t)
 }
 
-fn put_bit(out: &mut Bytes, value: i64) -> Result<(), NoMemory>
-    ensures { OnOk result (out.new ≡ out.old ++ bit_text value) }
+#[tactic(auto, using(crate::proofs::GrewLaws::grew_laws))]
+fn add_bit(out: &mut Bytes, value: i64) -> Result<(), NoMemory>
+    ensures ok { OnOk result (out.new ≡ out.old ++ bit_text value) }
+    ensures grew { Grew out.old out.new }
 {
     if value == 0 {
-        return out.put(b"false");
+        return add(out, b"false");
     }
-    out.put(b"true")
+    add(out, b"true")
 }
 
-fn put_numbers(out: &mut Bytes, numbers: &[i64]) -> Result<(), NoMemory>
-    ensures { OnOk result (out.new ≡ out.old ++ numbers_text numbers.now) }
+#[tactic(auto, using(crate::proofs::GrewLaws::grew_laws))]
+fn add_numbers(out: &mut Bytes, numbers: &[i64]) -> Result<(), NoMemory>
+    ensures ok { OnOk result (out.new ≡ out.old ++ numbers_text numbers.now) }
+    ensures grew { Grew out.old out.new }
 {
     if let [first, rest @ ..] = numbers {
-        out.put(b": ")?;
-        out.put_signed(*first)?;
+        add(out, b": ")?;
+        add_signed(out, *first)?;
         for n in rest {
-            out.put(b", ")?;
-            out.put_signed(*n)?;
+            add(out, b", ")?;
+            add_signed(out, *n)?;
         }
     }
     Ok(())
 }
 
-fn put_words(out: &mut Bytes, words: &[Name]) -> Result<(), NoMemory>
-    ensures { OnOk result (out.new ≡ out.old ++ words_text words.now) }
+#[tactic(auto, using(crate::proofs::GrewLaws::grew_laws))]
+fn add_words(out: &mut Bytes, words: &[Name]) -> Result<(), NoMemory>
+    ensures ok { OnOk result (out.new ≡ out.old ++ words_text words.now) }
+    ensures grew { Grew out.old out.new }
 {
     if let [first, rest @ ..] = words {
-        out.put(b"<")?;
-        out.put(first.as_slice())?;
+        add(out, b"<")?;
+        add(out, first.as_slice())?;
         for word in rest {
-            out.put(b", ")?;
-            out.put(word.as_slice())?;
+            add(out, b", ")?;
+            add(out, word.as_slice())?;
         }
-        out.put(b">")?;
+        add(out, b">")?;
     }
     Ok(())
 }

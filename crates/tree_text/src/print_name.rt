@@ -1,7 +1,10 @@
-ghost use Rattle.std.specs.Prelude.{◌≡◌, ◌<◌, [], ◌∷◌, ◌++◌, OnOk, flat_map};
+//! Prints strings and names.
+ghost use Rattle.std.specs.Prelude.{◌≡◌, ◌<◌, [], ◌∷◌, ◌++◌, OnOk, OnErr, flat_map};
 ghost use Rattle.std.specs.List.{list_all};
+ghost use Rattle.tree_text.specs.Grew.{Grew};
 ghost use Rattle.tree_text.specs.NameText.{is_letter, is_digit, begins_name, continues_name, is_bare, hex_digit, stands_plain, byte_text, string_text, name_text};
 
+use crate::grow::add;
 use tree_model::{Bytes, NoMemory};
 
 fn is_letter(b: u8) -> bool
@@ -57,39 +60,71 @@ fn stands_plain(b: u8) -> bool
     32 <= b && b <= 126 && b != b'"'
 }
 
-fn put_string_byte(out: &mut Bytes, b: u8) -> Result<(), NoMemory>
-    ensures { OnOk result (out.new ≡ out.old ++ byte_text b) }
+#[tactic(auto, using(crate::proofs::GrewLaws::grew_laws))]
+fn add_string_byte(out: &mut Bytes, b: u8) -> Result<(), NoMemory>
+    ensures ok { OnOk result (out.new ≡ out.old ++ byte_text b) }
+    ensures grew { Grew out.old out.new }
 {
     if b == b'\\' {
-        return out.put(b"\\\\");
+        return add(out, b"\\\\");
     }
     if stands_plain(b) {
-        return out.put_byte(b);
+        return add(out, &[b]);
     }
-    out.put(&[b'\\', hex_digit(b / 16), hex_digit(b % 16)])
+    add(out, &[b'\\', hex_digit(b / 16), hex_digit(b % 16)])
+}
+
+#[tactic(auto, using(crate::proofs::GrewLaws::grew_laws))]
+fn add_string_bytes(out: &mut Bytes, bytes: &[u8]) -> Result<(), NoMemory>
+    ensures ok { OnOk result (out.new ≡ out.old ++ flat_map byte_text bytes.now) }
+    ensures grew { Grew out.old out.new }
+{
+    for b in bytes {
+        add_string_byte(out, *b)?;
+    }
+    Ok(())
+}
+
+#[tactic(auto, using(crate::proofs::GrewLaws::grew_laws))]
+pub fn add_string(out: &mut Bytes, bytes: &[u8]) -> Result<(), NoMemory>
+    ensures ok { OnOk result (out.new ≡ out.old ++ string_text bytes.now) }
+    ensures grew { Grew out.old out.new }
+{
+    add(out, b"\"")?;
+    add_string_bytes(out, bytes)?;
+    add(out, b"\"")
+}
+
+#[tactic(auto, using(crate::proofs::GrewLaws::grew_laws))]
+pub fn add_name(out: &mut Bytes, name: &[u8]) -> Result<(), NoMemory>
+    ensures ok { OnOk result (out.new ≡ out.old ++ name_text name.now) }
+    ensures grew { Grew out.old out.new }
+{
+    if is_bare(name) {
+        return add(out, name);
+    }
+    add_string(out, name)
 }
 
 /// Appends a text as a string.
+#[tactic(auto, using(crate::proofs::GrewLaws::grew_laws))]
 pub fn put_string(out: &mut Bytes, bytes: &[u8]) -> Result<(), NoMemory>
-    ensures { OnOk result (out.new ≡ out.old ++ string_text bytes.now) }
+    ensures ok { OnOk result (out.new ≡ out.old ++ string_text bytes.now) }
+    ensures err { OnErr result (out.new ≡ out.old) }
 {
-    out.put_byte(b'"')?;
-    put_string_bytes(out, bytes)?;
-    out.put_byte(b'"')
-}
-
-fn put_string_bytes(out: &mut Bytes, bytes: &[u8]) -> Result<(), NoMemory>
-    ensures { OnOk result (out.new ≡ out.old ++ flat_map byte_text bytes.now) }
-{
-    for b in bytes {
-        put_string_byte(out, *b)?;
+    let len = out.len();
+    if let Err(fault) = add_string(out, bytes) {
+        out.truncate(len);
+        return Err(fault);
     }
     Ok(())
 }
 
 /// Appends a name: itself where it is a bare identifier, else as a string.
+#[tactic(auto, using(crate::proofs::GrewLaws::grew_laws))]
 pub fn put_name(out: &mut Bytes, name: &[u8]) -> Result<(), NoMemory>
-    ensures { OnOk result (out.new ≡ out.old ++ name_text name.now) }
+    ensures ok { OnOk result (out.new ≡ out.old ++ name_text name.now) }
+    ensures err { OnErr result (out.new ≡ out.old) }
 {
     if is_bare(name) {
         return out.put(name);
