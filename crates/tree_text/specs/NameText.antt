@@ -1,27 +1,6 @@
 -- The printed text of strings and names.
-use Rattle.std.specs.Prelude.{ℕ, ◌+◌, ◌/◌, ◌%◌, Bool, false, not, ◌||◌, ◌&&◌, ◌==◌, nat_lt, nat_le, List, [], ◌∷◌, ◌++◌, if◌then◌else◌, flat_map}
-use Rattle.std.specs.List.{list_all}
-
--- whether the byte is an ASCII letter
-abbrev pub is_letter : ℕ → Bool
-is_letter b = (nat_le 65 b && nat_le b 90) || (nat_le 97 b && nat_le b 122)
-
--- whether the byte is a decimal digit
-abbrev pub is_digit : ℕ → Bool
-is_digit b = nat_le 48 b && nat_le b 57
-
--- whether a bare identifier may begin with the byte: a letter or `_`
-abbrev pub begins_name : ℕ → Bool
-begins_name b = is_letter b || b == 95
-
--- whether the byte may stand behind the first one: a letter, a digit, `_`, `$` or `.`
-abbrev pub continues_name : ℕ → Bool
-continues_name b = is_letter b || is_digit b || b == 95 || b == 36 || b == 46
-
--- whether the name is a bare identifier
-abbrev pub is_bare : List ℕ → Bool
-is_bare [] = false
-is_bare (b ∷ bs) = begins_name b && list_all continues_name bs
+use Rattle.std.specs.Prelude.{ℕ, ◌+◌, ◌/◌, ◌%◌, Bool, not, ◌&&◌, ◌==◌, nat_lt, nat_le, List, [], ◌∷◌, ◌++◌, if◌then◌else◌, flat_map}
+use Rattle.mlir_lex.specs.Bytes.{is_bare}
 
 -- the upper case hexadecimal digit of a number below 16
 abbrev pub hex_digit : ℕ → ℕ

@@ -1,51 +1,11 @@
 //! Prints strings and names.
-ghost use Rattle.std.specs.Prelude.{◌≡◌, ◌<◌, [], ◌∷◌, ◌++◌, OnOk, OnErr, flat_map};
-ghost use Rattle.std.specs.List.{list_all};
+ghost use Rattle.std.specs.Prelude.{◌≡◌, ◌<◌, ◌++◌, OnOk, OnErr, flat_map};
 ghost use Rattle.tree_text.specs.Grew.{Grew};
-ghost use Rattle.tree_text.specs.NameText.{is_letter, is_digit, begins_name, continues_name, is_bare, hex_digit, stands_plain, byte_text, string_text, name_text};
+ghost use Rattle.tree_text.specs.NameText.{hex_digit, stands_plain, byte_text, string_text, name_text};
 
 use crate::grow::add;
+use mlir_lex::is_bare;
 use tree_model::{Bytes, NoMemory};
-
-fn is_letter(b: u8) -> bool
-    ensures { result ≡ is_letter b }
-{
-    (65 <= b && b <= 90) || (97 <= b && b <= 122)
-}
-
-fn is_digit(b: u8) -> bool
-    ensures { result ≡ is_digit b }
-{
-    48 <= b && b <= 57
-}
-
-fn begins_name(b: u8) -> bool
-    ensures { result ≡ begins_name b }
-{
-    is_letter(b) || b == b'_'
-}
-
-fn continues_name(b: u8) -> bool
-    ensures { result ≡ continues_name b }
-{
-    is_letter(b) || is_digit(b) || b == b'_' || b == b'$' || b == b'.'
-}
-
-/// Whether the name is a bare identifier.
-pub fn is_bare(name: &[u8]) -> bool
-    ensures { result ≡ is_bare name.now }
-{
-    match name {
-        [first, rest @ ..] => begins_name(*first) && all_continue(rest),
-        [] => false,
-    }
-}
-
-fn all_continue(bytes: &[u8]) -> bool
-    ensures { result ≡ list_all continues_name bytes.now }
-{
-    bytes.iter().all(|b| continues_name(*b))
-}
 
 fn hex_digit(n: u8) -> u8
     requires { n < 16 }
