@@ -1,3 +1,5 @@
+//! The text of a module: its functions, their operations and the blocks in them.
+
 ghost use Rattle.std.specs.Prelude.{◌≡◌, ◌++◌, IfOk, OnOk, map, flat_map, codes};
 ghost use Rattle.tree_model.specs.declared.op_tree.OpTree.{out-OpTree};
 ghost use Rattle.text_model.specs.PrintedOps.{head_text, tail_text, op_text, region_text, block_parts, regions_text, blocks_text, first_block, block_text, shows_label, has_none};

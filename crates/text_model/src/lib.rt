@@ -8,4 +8,4 @@ mod printed;
 mod value_name;
 
 pub use printed::law_empty_module;
-pub use value_name::{Named, ValueName};
+pub use value_name::ValueName;

@@ -6,4 +6,4 @@ use Rattle.generic_printer.specs.NamesIn.{names_in}
 use Rattle.generic_printer.proofs.parts.put_operands.Given as goal
 
 abbrev pub invariant-loop-value : goal.invariant-loop-value
-invariant-loop-value l = l.out ≡ l.initial.out ++ led_by (codes ", ") (map (λ v. found_name ((names_in l.fn.table).value v)) (take l.value-index l.rest))
+invariant-loop-value l = l.out ≡ l.initial.out ++ led_by (codes ", ") (map (λ v. found_name ((names_in l.fn.table).name v)) (take l.value-index l.rest))
