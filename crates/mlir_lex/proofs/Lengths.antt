@@ -3,8 +3,8 @@ use Rattle.std.proofs.Common.{◌≡◌, ◌⊎◌, inl, inr, ℕ, ◌+◌, ◌<
 use Rattle.std.specs.List.{list_all}
 use Rattle.std.proofs.lemmas.Bool.{false≢true}
 use Rattle.std.proofs.lemmas.Bool.Decides.{nat_tests}
-use Rattle.mlir_lex.specs.Bytes.{is_digit, is_hex_digit, is_letter, starts_bare, is_bare_byte, starts_suffix, is_suffix_byte}
-use Rattle.mlir_lex.specs.Tokens.{is_run, is_word, IsSuffix, IsNumber}
+use Rattle.mlir_lex.specs.Bytes.{is_word, is_digit, is_hex_digit, is_letter, starts_bare, is_bare_byte, starts_suffix, is_suffix_byte}
+use Rattle.mlir_lex.specs.Tokens.{is_run, IsSuffix, IsNumber}
 use Rattle.mlir_lex.specs.Scan.{run, next_is, begins, suffix_len, number_len}
 use Rattle.mlir_lex.proofs.Runs.{run-yes, run-no, run-nil}
 
@@ -90,7 +90,6 @@ run-first p b bs h =
 
 -- the same behind a byte of another class
 pub word-first : (first others : ℕ → Bool) (b : ℕ) (bs : List ℕ) → first b ≡ true → others b ≡ true → Parts (b ∷ bs) (run others (b ∷ bs)) (λ front back. is_word first others front ≡ true)
-unfolding is_word
 word-first first others b bs h k =
     let more = run-parts others bs in
     record { front = b ∷ more.front; back = more.back; whole = ap (λ x. b ∷ x) more.whole; len = omega (arith, more.len, run-yes others b bs k); good = and-both _ _ h more.good.0 }
@@ -114,7 +113,7 @@ suffix-parts (b ∷ bs) h = by_digit (is_digit b) refl (starts_suffix b) refl h
     by_digit false e false f h = absurd (omega (arith, h))
 
 pub suffix-front : (front back : List ℕ) → IsSuffix front → (0 < length front) × (length front ≤ suffix_len (front ++ back))
-unfolding suffix_len next_is IsSuffix is_run is_word
+unfolding suffix_len next_is IsSuffix is_run
 suffix-front [] back (inl h) = absurd (false≢true h)
 suffix-front [] back (inr h) = absurd (false≢true h)
 suffix-front (b ∷ bs) back (inl h) = (omega arith, rw (and-left (is_digit b) _ h) (run-front is_digit (b ∷ bs) back h))
@@ -124,7 +123,7 @@ suffix-front (b ∷ bs) back (inr h) =
 
 -- a suffix begins with no quote
 pub suffix-no-quote : (front back : List ℕ) → IsSuffix front → begins 34 (front ++ back) ≡ false
-unfolding IsSuffix is_run is_word begins
+unfolding IsSuffix is_run begins
 suffix-no-quote [] back (inl h) = absurd (false≢true h)
 suffix-no-quote [] back (inr h) = absurd (false≢true h)
 suffix-no-quote (b ∷ bs) back (inl h) = by_test (b == 34) refl

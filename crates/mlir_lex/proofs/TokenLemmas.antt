@@ -3,8 +3,8 @@ use Rattle.std.proofs.Common.{◌≡◌, ◌⊎◌, inl, inr, ℕ, ◌<◌, ◌�
 use Rattle.std.proofs.lemmas.Bool.{false≢true}
 use Rattle.mlir_lex.specs.declared.TokenKind.{TokenKind}
 use Rattle.mlir_lex.specs.declared.TokenKind.TheVariants.{Bare, ValueName, BlockName, AttrName, TypeName, SymbolName, Text, Number, Sign}
-use Rattle.mlir_lex.specs.Bytes.{is_digit, is_letter, starts_bare, is_bare_byte, is_sign}
-use Rattle.mlir_lex.specs.Tokens.{is_run, is_word, IsSuffix, IsNumber, IsString, IsName, IsSymbol, IsSign, IsToken}
+use Rattle.mlir_lex.specs.Bytes.{is_word, is_digit, is_letter, starts_bare, is_bare_byte, is_sign}
+use Rattle.mlir_lex.specs.Tokens.{is_run, IsSuffix, IsNumber, IsString, IsName, IsSymbol, IsSign, IsToken}
 use Rattle.mlir_lex.specs.Scan.{begins, behind, string_len, suffix_len, symbol_tail_len, sign_len, kind_of, kind_at, length_of}
 use Rattle.mlir_lex.proofs.Lengths.{Parts, and-left, and-right, and-both, or-cases, eqb-is, parts-map, parts-cons, digit-not-bare, bare-goes-on, run-front, word-first, suffix-parts, suffix-front, suffix-no-quote, number-parts, number-front}
 use Rattle.mlir_lex.proofs.StringLemmas.{string-front, string-parts, begins-34}
@@ -67,7 +67,7 @@ kind-sign b h =
 
 -- a token begins with a byte of its kind
 pub token-kind : (kind : TokenKind) (front back : List ℕ) → IsToken kind front → kind_at (front ++ back) ≡ Some kind
-unfolding IsToken IsName IsSymbol IsString IsNumber IsSign is_run is_word kind_at kind_of starts_bare is_letter is_digit is_sign
+unfolding IsToken IsName IsSymbol IsString IsNumber IsSign is_run kind_at kind_of starts_bare is_letter is_digit is_sign
 token-kind Bare [] back h = absurd (false≢true h)
 token-kind Bare (b ∷ bs) back h = kind-bare b (and-left _ _ h)
 token-kind ValueName front back (s, e, is) = ap (λ x. kind_at (x ++ back)) e
@@ -172,7 +172,7 @@ sign-parts b bs h = by_tests (begins 45 (b ∷ bs) && begins 62 bs) refl (begins
 
 -- no token of the kind is longer than the length that is computed
 pub token-front : (kind : TokenKind) (front back : List ℕ) → IsToken kind front → length front ≤ length_of kind (front ++ back)
-unfolding IsToken length_of is_word
+unfolding IsToken length_of
 token-front Bare [] back h = omega arith
 token-front Bare (b ∷ bs) back h = run-front is_bare_byte (b ∷ bs) back (and-both _ _ (bare-goes-on b (and-left _ _ h)) (and-right (starts_bare b) _ h))
 token-front ValueName front back h = name-front 37 front back h

@@ -1,5 +1,6 @@
--- The bytes by their part in a text. Letters and digits are those of ASCII.
-use Rattle.std.specs.Prelude.{ℕ, Bool, not, ◌==◌, ◌&&◌, ◌||◌, nat_le}
+-- The bytes by their part in a text, and bare identifiers. Letters and digits are those of ASCII.
+use Rattle.std.specs.Prelude.{ℕ, Bool, false, not, ◌==◌, ◌&&◌, ◌||◌, nat_le, List, [], ◌∷◌}
+use Rattle.std.specs.List.{list_all}
 
 -- space, tab, carriage return or line feed
 unfoldable pub is_blank : ℕ → Bool
@@ -28,6 +29,15 @@ starts_bare b = is_letter b || b == 95
 -- what stands in a bare identifier: a letter, a digit or one of `_ $ .`
 unfoldable pub is_bare_byte : ℕ → Bool
 is_bare_byte b = is_letter b || is_digit b || b == 95 || b == 36 || b == 46
+
+-- a byte of the first class, and then any number of the second
+abbrev pub is_word : (ℕ → Bool) → (ℕ → Bool) → List ℕ → Bool
+is_word first others [] = false
+is_word first others (b ∷ bs) = first b && list_all others bs
+
+-- a bare identifier
+abbrev pub is_bare : List ℕ → Bool
+is_bare name = is_word starts_bare is_bare_byte name
 
 -- what a suffix that isn't a number begins with: a letter or one of `$ . _ -`
 unfoldable pub starts_suffix : ℕ → Bool

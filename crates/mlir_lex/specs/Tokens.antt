@@ -3,17 +3,12 @@ use Rattle.std.specs.Prelude.{◌≡◌, ◌⊎◌, ◌≤◌, ℕ, Bool, true, 
 use Rattle.std.specs.List.{list_all}
 use Rattle.mlir_lex.specs.declared.TokenKind.{TokenKind}
 use Rattle.mlir_lex.specs.declared.TokenKind.TheVariants.{Bare, ValueName, BlockName, AttrName, TypeName, SymbolName, Text, Number, Sign}
-use Rattle.mlir_lex.specs.Bytes.{is_digit, is_hex_digit, starts_bare, is_bare_byte, starts_suffix, is_suffix_byte, is_plain, is_short_escape, is_sign}
+use Rattle.mlir_lex.specs.Bytes.{is_word, is_digit, is_hex_digit, is_bare, starts_suffix, is_suffix_byte, is_plain, is_short_escape, is_sign}
 
 -- one byte or more, each of the class
 unfoldable pub is_run : (ℕ → Bool) → List ℕ → Bool
 is_run class [] = false
 is_run class (b ∷ bs) = list_all class (b ∷ bs)
-
--- a byte of the first class, and then any number of the second
-unfoldable pub is_word : (ℕ → Bool) → (ℕ → Bool) → List ℕ → Bool
-is_word first others [] = false
-is_word first others (b ∷ bs) = first b && list_all others bs
 
 -- digits, or a letter or one of `$ . _ -` and then letters, digits and `$ . _ -`
 unfoldable pub IsSuffix : List ℕ → Type 0
@@ -52,7 +47,7 @@ IsSign t = (t ≡ 45 ∷ 62 ∷ []) ⊎ (t ≡ 58 ∷ 58 ∷ []) ⊎ ((b : ℕ) 
 
 -- these bytes are a token of this kind
 unfoldable pub IsToken : TokenKind → List ℕ → Type 0
-IsToken Bare t = IsTrue (is_word starts_bare is_bare_byte t)
+IsToken Bare t = IsTrue (is_bare t)
 IsToken ValueName t = IsName 37 t
 IsToken BlockName t = IsName 94 t
 IsToken AttrName t = IsName 35 t

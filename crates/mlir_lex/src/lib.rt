@@ -10,7 +10,7 @@ ghost use Rattle.mlir_lex.specs.Text.{next_of, Outcome, rest_of};
 ghost use Rattle.mlir_lex.specs.Text.{Lexes};
 
 use crate::scan::read_first;
-pub use scan::{is_bare_byte, is_digit, starts_bare};
+pub use scan::{is_bare, is_bare_byte, is_digit, starts_bare};
 use std::alloc::Global;
 use std::marker::Model;
 

@@ -1,7 +1,8 @@
 //! The lengths of what may stand at the head of a text.
 
 ghost use Rattle.std.specs.Prelude.{◌≡◌, ℕ, ◌+◌, ◌^◌, ◌<◌, ◌≤◌, drop, length, true, false, not, ◌-◌, ◌==◌, ◌&&◌, IfOk, IfSome};
-ghost use Rattle.mlir_lex.specs.Bytes.{is_bare_byte, is_blank, is_digit, is_hex_digit, is_letter, is_on_line, is_plain, is_short_escape, is_sign, is_suffix_byte, starts_bare, starts_suffix};
+ghost use Rattle.std.specs.List.{list_all};
+ghost use Rattle.mlir_lex.specs.Bytes.{is_bare, is_bare_byte, is_blank, is_digit, is_hex_digit, is_letter, is_on_line, is_plain, is_short_escape, is_sign, is_suffix_byte, starts_bare, starts_suffix};
 ghost use Rattle.mlir_lex.specs.Scan.{begins, behind, closes, comment_len, escape_len, fault_at, gap_len, gap_piece, inside_len, kind_of, length_of, next_is, number_len, pieces, read_clear, read_first, run, sign_len, string_fault, string_len, string_piece, suffix_len, symbol_tail_len, token_len};
 
 use crate::{LexFault, LexKind, Token, TokenKind};
@@ -56,6 +57,22 @@ pub fn is_bare_byte(b: u8) -> bool
     ensures { result ≡ is_bare_byte b }
 {
     is_letter(b) || is_digit(b) || b == b'_' || b == b'$' || b == b'.'
+}
+
+/// Whether the text is a bare identifier.
+pub fn is_bare(name: &[u8]) -> bool
+    ensures { result ≡ is_bare name.now }
+{
+    match name {
+        [first, others @ ..] => starts_bare(*first) && are_bare_bytes(others),
+        [] => false,
+    }
+}
+
+fn are_bare_bytes(bytes: &[u8]) -> bool
+    ensures { result ≡ list_all is_bare_byte bytes.now }
+{
+    bytes.iter().all(|b| is_bare_byte(*b))
 }
 
 #[tactic(auto, unfolding(crate::specs::Bytes::starts_suffix))]
