@@ -2,7 +2,7 @@
 ghost use Rattle.std.specs.Prelude.{◌≡◌, ◌++◌, IfOk, OnOk, OnErr, map, codes};
 ghost use Rattle.tree_text.specs.Joined.{joined};
 ghost use Rattle.tree_text.specs.Grew.{Grew};
-ghost use Rattle.tree_text.specs.AttrText.{shown, is_bit, integer_text, dict_text, numbers_text, words_text, attr_text, value_text, bit_text};
+ghost use Rattle.tree_text.specs.AttrText.{shown, is_bit, integer_text, dict_text, entry_text, numbers_text, words_text, attr_text, value_text, bit_text};
 
 use crate::grow::{add, add_number, add_signed};
 use crate::print_name::{add_name, add_string};
@@ -110,15 +110,23 @@ fn add_dict(out: &mut Bytes, entries: &[(Name, AttrTree)]) -> Result<(), NoMemor
     ensures grew { Grew out.old out.new }
 {
     if let [first, rest @ ..] = entries {
-        add_name(out, first.0.as_slice())?;
-        add_value(out, &first.1)?;
+        add_entry(out, first.0.as_slice(), &first.1)?;
         for entry in rest {
             add(out, b", ")?;
-            add_name(out, entry.0.as_slice())?;
-            add_value(out, &entry.1)?;
+            add_entry(out, entry.0.as_slice(), &entry.1)?;
         }
     }
     Ok(())
+}
+
+#[cycle(add_attr)]
+#[tactic(auto, using(crate::proofs::ShownLaws::shown_laws))]
+fn add_entry(out: &mut Bytes, name: &[u8], a: &AttrTree) -> Result<(), NoMemory>
+    ensures ok { OnOk result (out.new ≡ out.old ++ entry_text (name.now, shown a.now)) }
+    ensures grew { Grew out.old out.new }
+{
+    add_name(out, name)?;
+    add_value(out, a)
 }
 
 #[cycle(add_attr)]
@@ -197,14 +205,25 @@ fn add_words(out: &mut Bytes, words: &[Name]) -> Result<(), NoMemory>
     ensures ok { OnOk result (out.new ≡ out.old ++ words_text words.now) }
     ensures grew { Grew out.old out.new }
 {
-    if let [first, rest @ ..] = words {
+    if let [_, ..] = words {
         add(out, b"<")?;
+        add_joined(out, words)?;
+        add(out, b">")?;
+    }
+    Ok(())
+}
+
+#[tactic(auto, using(crate::proofs::GrewLaws::grew_laws))]
+fn add_joined(out: &mut Bytes, words: &[Name]) -> Result<(), NoMemory>
+    ensures ok { OnOk result (out.new ≡ out.old ++ joined (codes ", ") words.now) }
+    ensures grew { Grew out.old out.new }
+{
+    if let [first, rest @ ..] = words {
         add(out, first.as_slice())?;
         for word in rest {
             add(out, b", ")?;
             add(out, word.as_slice())?;
         }
-        add(out, b">")?;
     }
     Ok(())
 }
