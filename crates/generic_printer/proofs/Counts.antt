@@ -14,7 +14,7 @@ use Rattle.tree_model.specs.declared.op_tree.OpTree.{OpTree}
 use Rattle.text_model.specs.declared.value_name.ValueName.{ValueName}
 use Rattle.text_model.specs.declared.value_name.ValueName.TheVariants.{Argument, Single, Part}
 use Rattle.text_model.specs.PrintedPlaces.{Place, argument_at, single_at, group_at, successor_at, block_at, places_of_op}
-use Rattle.text_model.specs.PrintedNames.{Names, defines, values_at, places_before, is_argument, is_other, name_at, value_name, value_type, label_position, names_label, names_along, names_of, blocks_at}
+use Rattle.text_model.specs.PrintedNames.{Names, defines, values_at, places_before, is_argument, is_other, name_at, value_name, defined_type, label_position, names_label, names_along, names_of, blocks_at}
 use Rattle.generic_printer.specs.Counters.{Counters, at_start, with_first, with_name, with_parts, with_place, with_places}
 
 -- what the counts are behind some places

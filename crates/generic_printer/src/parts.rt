@@ -1,13 +1,14 @@
 //! The parts of an operation's text besides its regions.
 
 ghost use Rattle.std.specs.Prelude.{◌≡◌, ◌++◌, OnOk, map, false};
-ghost use Rattle.tree_model.specs.TypeText.{listed, results_text, printed, text_at};
+ghost use Rattle.tree_text.specs.TypeText.{listed, results_text, printed, text_at};
 ghost use Rattle.text_model.specs.PrintedOps.{found_number, found_name, found_type, found_label, results_lead, operands_text, successors_text, props_text, attrs_text, op_signature, argument_text, arguments_text, label_line};
 ghost use Rattle.generic_printer.specs.NamesIn.{names_in};
 
 use crate::table::Table;
 use text_model::ValueName;
-use tree_model::{AttrTree, Bytes, Name, NoMemory, TypeTree, is_function, put_dict, put_type};
+use tree_model::{AttrTree, Bytes, Name, NoMemory, TypeTree};
+use tree_text::{is_function, put_dict, put_type};
 
 fn put_number_of(out: &mut Bytes, name: Option<ValueName>) -> Result<(), NoMemory>
     ensures { OnOk result (out.new ≡ out.old ++ found_number name) }
@@ -41,7 +42,7 @@ fn put_value_type(out: &mut Bytes, table: &Table, value: u32) -> Result<(), NoMe
         ≡ out.old ++ text_at false (found_type ((names_in table.now).type_of value))) }
 {
     match table.values.get(&value) {
-        Some(named) => put_type(out, false, named.of),
+        Some(named) => put_type(out, named.of),
         None => out.put(b"?"),
     }
 }
@@ -171,7 +172,7 @@ fn put_outputs(out: &mut Bytes, results: &[(u32, TypeTree)]) -> Result<(), NoMem
 {
     if let [only] = results {
         if !is_function(&only.1) {
-            return put_type(out, false, &only.1);
+            return put_type(out, &only.1);
         }
     }
     put_listed_outputs(out, results)
@@ -182,10 +183,10 @@ fn put_listed_outputs(out: &mut Bytes, results: &[(u32, TypeTree)]) -> Result<()
 {
     out.put(b"(")?;
     if let [first, rest @ ..] = results {
-        put_type(out, false, &first.1)?;
+        put_type(out, &first.1)?;
         for value in rest {
             out.put(b", ")?;
-            put_type(out, false, &value.1)?;
+            put_type(out, &value.1)?;
         }
     }
     out.put(b")")
@@ -196,7 +197,7 @@ fn put_argument(out: &mut Bytes, table: &Table, value: &(u32, TypeTree)) -> Resu
 {
     put_name(out, table.name_of(value.0))?;
     out.put(b": ")?;
-    put_type(out, false, &value.1)
+    put_type(out, &value.1)
 }
 
 fn put_arguments(out: &mut Bytes, table: &Table, values: &[(u32, TypeTree)]) -> Result<(), NoMemory>

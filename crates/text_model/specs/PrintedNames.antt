@@ -53,8 +53,8 @@ abbrev pub value_name : List Place → ℕ → Option ValueName
 value_name places value = option_and_then (name_at value (places_before value places)) (find (defines value) places)
 
 -- the type of a value, where it is first defined
-abbrev pub value_type : List Place → ℕ → Option TypeTree
-value_type places value = option_map (λ v. v.1) (find (λ v. v.0 == value) (flat_map values_at places))
+abbrev pub defined_type : List Place → ℕ → Option TypeTree
+defined_type places value = option_map (λ v. v.1) (find (λ v. v.0 == value) (flat_map values_at places))
 
 -- the block that stands at a place, with its label and its position
 abbrev pub blocks_at : Place → List (ℕ × ℕ)
@@ -88,7 +88,7 @@ pub record Names : Type 0 where
 abbrev pub names_along : List Place → Names
 names_along places = record {
   name = value_name places;
-  type_of = value_type places;
+  type_of = defined_type places;
   position = label_position places;
   is_target = λ label. list_any (names_label label) places;
 }

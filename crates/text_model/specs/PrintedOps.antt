@@ -1,9 +1,9 @@
 -- The printed text of an operation, by the names of the function in which it stands.
 use Rattle.std.specs.Prelude.{ℕ, ◌+◌, Bool, true, false, ◌||◌, not, List, [], ◌∷◌, ◌++◌, map, flat_map, length, Option, Some, None, if◌then◌else◌, codes, decimal}
-use Rattle.tree_model.specs.Joined.{joined}
-use Rattle.tree_model.specs.NameText.{string_text}
-use Rattle.tree_model.specs.TypeText.{Printed, printed, plain_type, type_text, signature_text}
-use Rattle.tree_model.specs.AttrText.{dict_text}
+use Rattle.tree_text.specs.Joined.{joined}
+use Rattle.tree_text.specs.NameText.{string_text}
+use Rattle.tree_text.specs.TypeText.{Printed, printed, plain_type, type_text, signature_text}
+use Rattle.tree_text.specs.AttrText.{dict_text}
 use Rattle.tree_model.specs.declared.type_tree.TypeTree.{TypeTree}
 use Rattle.tree_model.specs.declared.attr_tree.AttrTree.{AttrTree}
 use Rattle.tree_model.specs.declared.op_tree.OpTree.{OpTree, fold-OpTree}

@@ -1,7 +1,7 @@
 use Rattle.std.proofs.Common.{◌≡◌, ◌++◌, take, map}
 use Rattle.std.specs.Prelude.{codes, false}
-use Rattle.tree_model.specs.Joined.{led_by}
-use Rattle.tree_model.specs.TypeText.{text_at}
+use Rattle.tree_text.specs.Joined.{led_by}
+use Rattle.tree_text.specs.TypeText.{text_at}
 use Rattle.text_model.specs.PrintedOps.{found_type}
 use Rattle.generic_printer.specs.NamesIn.{names_in}
 use Rattle.generic_printer.proofs.parts.put_inputs.Given as goal
