@@ -1,6 +1,7 @@
 -- What a run leaves in the source and the sinks.
 use Rattle.std.specs.Prelude.{◌≡◌, ◌⊎◌, ℕ, List, ◌++◌, ⊤, Option, Some, None}
 use Rattle.std.specs.Io.KnownBytes.{Keeps, Appends}
+use Rattle.edge_kit.specs.Edges.{Rose}
 use Rattle.tool_cli.specs.declared.status.Status.{Status}
 use Rattle.tool_cli.specs.declared.status.Status.TheVariants.{Ok, Usage, Refused, PassFailed, ReadFault, WriteFault, NoMemory, Limit}
 use Rattle.tool_cli.specs.declared.command.Command.{Command}
@@ -39,6 +40,10 @@ pub record TakesAll (out_old out_new diag_old diag_new : Option (List ℕ)) (rep
 -- a sink took a front part of a text
 abbrev pub TakesFront : Option (List ℕ) → Option (List ℕ) → List ℕ → Type 0
 TakesFront old new text = (front rest : List ℕ) × (front ++ rest ≡ text) × Appends old new front
+
+-- one sink's count of faults rose, and the other's is as it was
+abbrev pub RoseAlone : ℕ → ℕ → ℕ → ℕ → Type 0
+RoseAlone before now other_before other_now = Rose before now × (other_now ≡ other_before)
 
 -- the writing stopped at `out`, and `diag` stays; or it stopped at `diag`, and `out` took its whole text
 abbrev pub StopsEarly : Type 0 → Type 0 → Option (List ℕ) → Option (List ℕ) → Option (List ℕ) → Option (List ℕ) → Reply → Type 0

@@ -5,7 +5,7 @@ ghost use Rattle.std.specs.Io.KnownBytes.{IsAtEnd, Keeps};
 ghost use Rattle.edge_kit.specs.Edges.{Rose};
 ghost use Rattle.tool_cli.specs.Replies.{Reply, Out};
 ghost use Rattle.tool_cli.specs.Commands.{command_of};
-ghost use Rattle.tool_cli.specs.Runs.{AreCommand, IsReply, RepliesTo, TakesAll, StopsEarly, Spares, OneReply};
+ghost use Rattle.tool_cli.specs.Runs.{AreCommand, IsReply, RepliesTo, TakesAll, StopsEarly, RoseAlone, Spares, OneReply};
 
 use crate::command::{Command, command_of};
 use crate::edges::{read_input, write_all};
@@ -49,7 +49,8 @@ pub fn run_single<S: Source, K: Sink, E: Sink>(
     ensures read_fault { result ≡ Status.ReadFault → AreCommand words.now × Rose (S.faults input.old) (S.faults input.new)
         × Spares out.old out.new diag.old diag.new }
     ensures write_fault { result ≡ Status.WriteFault → (reply : Reply) × RepliesTo words.now (S.left input.old) reply
-        × StopsEarly (Rose (K.faults out.old) (K.faults out.new)) (Rose (E.faults diag.old) (E.faults diag.new))
+        × StopsEarly (RoseAlone (K.faults out.old) (K.faults out.new) (E.faults diag.old) (E.faults diag.new))
+        (RoseAlone (E.faults diag.old) (E.faults diag.new) (K.faults out.old) (K.faults out.new))
         (K.held out.old) (K.held out.new) (E.held diag.old) (E.held diag.new) reply }
     ensures quiet_input { (result ≡ Status.ReadFault → ⊥) → S.faults input.new ≡ S.faults input.old }
     ensures quiet_outputs { (result ≡ Status.WriteFault → ⊥)
@@ -137,7 +138,8 @@ fn reply_to_text(alloc: Global, command: Command, text: &[u8]) -> Result<Prepare
 fn deliver<K: Sink, E: Sink>(out: &mut K, diag: &mut E, reply: &Prepared) -> Result<(), SinkFault>
     ensures ok { OnOk result (TakesAll (K.held out.old) (K.held out.new) (E.held diag.old) (E.held diag.new) reply.now) }
     ensures failed { IsErrOf result SinkFault.Failed
-        → StopsEarly (Rose (K.faults out.old) (K.faults out.new)) (Rose (E.faults diag.old) (E.faults diag.new))
+        → StopsEarly (RoseAlone (K.faults out.old) (K.faults out.new) (E.faults diag.old) (E.faults diag.new))
+        (RoseAlone (E.faults diag.old) (E.faults diag.new) (K.faults out.old) (K.faults out.new))
         (K.held out.old) (K.held out.new) (E.held diag.old) (E.held diag.new) reply.now }
     ensures quiet { OnOk result ((K.faults out.new ≡ K.faults out.old) × (E.faults diag.new ≡ E.faults diag.old)) }
     ensures wanting { IsErrOf result SinkFault.NoMemory
