@@ -86,8 +86,3 @@ pub stop_refuses : (text : List ℕ) (tokens : List Token) (stop : Stop Word) (r
 stop_refuses text tokens stop rest tree cut read at first =
     let P : Stop Word → Type 0 = λ s. Read text tokens (Err s) in
     let e : ◌≡◌ {A = Result (List FirstFunc) (List Word)} (Ok first.funcs) (Err rest.now) = grammar_refuses text tokens (Err (At rest)) tree cut (subst P at read) first in absurd cc
-
--- a text with some fault is none
-pub some_fault_refuses : (text : List ℕ) (tokens : List Token) (o : Option LexFault) (fault : LexFault) (tree : ModuleTree) → Lexes text tokens o → o ≡ Some fault → IsFirstText text tree → ⊥
-some_fault_refuses text tokens o fault tree cut is first =
-    let P : Option LexFault → Type 0 = λ f. Lexes text tokens f in fault_refuses text tokens fault tree (subst P is cut) first

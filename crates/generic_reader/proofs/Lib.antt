@@ -1,3 +1,4 @@
 pub mod FirstLemmas
 pub mod ScopeLemmas
 pub mod UniqueLemmas
+pub mod WordLemmas

@@ -1,16 +1,17 @@
 //! Reads first texts.
 
-ghost use Rattle.std.specs.Prelude.{◌≡◌, ◌≤◌, ◌^◌, length, None, IfOk, IfSome, IfNone};
-ghost use Rattle.mlir_lex.specs.Text.{Lexes};
+ghost use Rattle.std.specs.Prelude.{◌≡◌, ◌≤◌, ◌^◌, length, IfOk, IfSome, IfNone};
 ghost use Rattle.tree_model.specs.declared.op_tree.ModuleTree.{ModuleTree};
 ghost use Rattle.text_model.specs.FirstText.{IsFirstText};
+ghost use Rattle.generic_reader.specs.Reading.{AreFuncs};
 
 use crate::funcs::read_file;
 use crate::trees::module_tree;
 use crate::words::words_of;
 use grammar_model::Stop;
-use mlir_lex::{Token, tokens};
+use sqlite_items::Items;
 use std::alloc::{AllocError, Global};
+use text_model::first::FirstFunc;
 use tree_model::{ModuleTree, NoMemory};
 
 /// The module that a first text denotes, or none where the text is no first text.
@@ -22,23 +23,33 @@ pub fn read_first(alloc: Global, text: &[u8]) -> Result<Option<ModuleTree>, NoMe
     ensures found { IfOk result (λ o. IfSome o (λ tree. IsFirstText text.now tree)) }
     ensures none { IfOk result (λ o. IfNone o ((tree : ModuleTree) → IsFirstText text.now tree → ⊥)) }
 {
-    let lexed = tokens(alloc, text)?;
-    match lexed.fault {
-        Some(_) => Ok(None),
-        None => denote(alloc, text, lexed.tokens.as_slice()),
+    match funcs_of(alloc, text)? {
+        Some(funcs) => denote(alloc, text, funcs.as_slice()),
+        None => Ok(None),
     }
 }
 
-// The module of a text that is cut into these tokens to its end.
-fn denote(alloc: Global, text: &[u8], tokens: &[Token]) -> Result<Option<ModuleTree>, NoMemory>
-    requires { Lexes text.now tokens.now None }
-    ensures found { IfOk result (λ o. IfSome o (λ tree. IsFirstText text.now tree)) }
+// The functions that the grammar reads in a text. The words of the text are let go before their trees are made.
+fn funcs_of(alloc: Global, text: &[u8]) -> Result<Option<Items<FirstFunc>>, NoMemory>
+    requires { length text.now ≤ 2 ^ 24 }
+    ensures found { IfOk result (λ o. IfSome o (λ funcs. AreFuncs text.now funcs)) }
     ensures none { IfOk result (λ o. IfNone o ((tree : ModuleTree) → IsFirstText text.now tree → ⊥)) }
 {
-    let words = words_of(alloc, text, tokens)?;
+    let Some(words) = words_of(alloc, text)? else {
+        return Ok(None);
+    };
     match read_file(alloc, words.as_slice()) {
-        Ok(funcs) => module_tree(alloc, text, funcs.as_slice()),
+        Ok(funcs) => Ok(Some(funcs)),
         Err(Stop::At(_)) => Ok(None),
         Err(Stop::Memory) => Err(AllocError),
     }
+}
+
+// The module of the functions that were read in a text, where their names are in order.
+fn denote(alloc: Global, text: &[u8], funcs: &[FirstFunc]) -> Result<Option<ModuleTree>, NoMemory>
+    requires { AreFuncs text.now funcs.now }
+    ensures found { IfOk result (λ o. IfSome o (λ tree. IsFirstText text.now tree)) }
+    ensures none { IfOk result (λ o. IfNone o ((tree : ModuleTree) → IsFirstText text.now tree → ⊥)) }
+{
+    module_tree(alloc, text, funcs)
 }

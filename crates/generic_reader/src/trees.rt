@@ -16,7 +16,7 @@ use std::alloc::{AllocError, Global};
 use text_model::first::{FirstFunc, Line, Word};
 use tree_model::{
     AttrTree, BlockTree, Bytes, DictTree, FuncList, FuncTree, ModuleTree, Name, OpList, OpTree,
-    RegionTree, TypeList, TypeTree, ValueList, one,
+    RegionTree, TypeList, TypeTree, ValueList, one, room_for,
 };
 
 /// The operations of the lines, where their names are in order behind those in scope. They are in scope then too.
@@ -30,7 +30,7 @@ fn line_ops<'t>(
     requires { Stands text.now scope.now }
     ensures { IfOk result (λ ops. ops ≡ when (lines_resolve text.now scope.old.words.items lines.now answer) (line_ops text.now scope.old.words.items lines.now answer)) }
 {
-    let mut ops = Items::new(alloc);
+    let mut ops = room_for(alloc, lines.len().saturating_add(1))?;
     'each: for line in lines {
         let Some(op) = maker_op(alloc, text, scope, line.maker)? else {
             return Ok(None);
@@ -69,7 +69,7 @@ fn end_ops(
 fn numbered(alloc: Global, args: &[Word]) -> Result<ValueList, AllocError>
     ensures { IfOk result (λ values. values ≡ numbered 0 args.now) }
 {
-    let mut values = Items::new(alloc);
+    let mut values = room_for(alloc, args.len())?;
     'each: for index in 0..args.len() {
         values.push((number(index)?, TypeTree::Int(32)))?;
     }
@@ -80,7 +80,7 @@ fn numbered(alloc: Global, args: &[Word]) -> Result<ValueList, AllocError>
 fn types(alloc: Global, count: usize) -> Result<TypeList, AllocError>
     ensures { IfOk result (λ list. list ≡ replicate count i32_type) }
 {
-    let mut list = Items::new(alloc);
+    let mut list = room_for(alloc, count)?;
     'each: for _ in 0..count {
         list.push(TypeTree::Int(32))?;
     }
@@ -96,8 +96,10 @@ fn signature_props(alloc: Global, text: &[u8], func: &FirstFunc) -> Result<DictT
     let name = Bytes::from_slice(alloc, name_of(text, func))?;
     let type_key = Name::from_slice(alloc, b"function_type")?;
     let name_key = Name::from_slice(alloc, b"sym_name")?;
-    let props =
-        vec![in alloc; (type_key, AttrTree::OfType(ty)), (name_key, AttrTree::Str(name))]?;
+    let props = vec![in alloc;
+        (type_key, AttrTree::OfType(ty)),
+        (name_key, AttrTree::Str(name)),
+    ]?;
     Ok(Items::from_vec(props))
 }
 
@@ -168,7 +170,7 @@ fn func_trees(
 ) -> Result<Option<FuncList>, AllocError>
     ensures { IfOk result (λ fs. fs ≡ when (funcs_resolve text.now funcs.now) (map (func_tree text.now) funcs.now)) }
 {
-    let mut trees = Items::new(alloc);
+    let mut trees = room_for(alloc, funcs.len())?;
     'each: for func in funcs {
         let Some(tree) = func_tree(alloc, text, func)? else {
             return Ok(None);

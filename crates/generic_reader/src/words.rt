@@ -1,24 +1,30 @@
 //! The words of a text: its tokens, each with its kind.
 
-ghost use Rattle.std.specs.Prelude.{◌≡◌, IfOk};
-ghost use Rattle.text_model.specs.FirstWords.{word_of, words_of};
+ghost use Rattle.std.specs.Prelude.{◌≡◌, ◌≤◌, ◌^◌, length, IfOk, IfSome, IfNone};
+ghost use Rattle.text_model.specs.FirstWords.{word_of};
+ghost use Rattle.generic_reader.specs.Reading.{AreWords, IsFaulty};
 
 use crate::kinds::kind_of;
 use crate::slices::between;
-use mlir_lex::Token;
+use mlir_lex::{Lexer, Token};
 use std::alloc::{AllocError, Global};
 use text_model::first::Word;
 
-/// The words of the tokens of a text.
-#[tactic(auto, unfolding(text_model::specs::FirstWords::words_of))]
-pub fn words_of(alloc: Global, text: &[u8], tokens: &[Token]) -> Result<Vec<Word>, AllocError>
-    ensures { IfOk result (λ v. v.items ≡ words_of text.now tokens.now) }
+/// The words of a text, or none where a token has a fault. No list of tokens is kept.
+pub fn words_of(alloc: Global, text: &[u8]) -> Result<Option<Vec<Word>>, AllocError>
+    requires { length text.now ≤ 2 ^ 24 }
+    ensures found { IfOk result (λ o. IfSome o (λ words. AreWords text.now words.items)) }
+    ensures none { IfOk result (λ o. IfNone o (IsFaulty text.now)) }
 {
-    let mut words = Vec::with_capacity(alloc, tokens.len())?;
-    for token in tokens {
-        words.push(word_of(text, *token))?;
+    let mut lexer = Lexer::new(text);
+    let mut words = Vec::new(alloc);
+    loop {
+        match lexer.next() {
+            Ok(Some(token)) => words.push(word_of(text, token))?,
+            Ok(None) => return Ok(Some(words)),
+            Err(_) => return Ok(None),
+        }
     }
-    Ok(words)
 }
 
 #[tactic(auto, unfolding(text_model::specs::FirstWords::word_of))]

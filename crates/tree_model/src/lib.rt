@@ -22,7 +22,7 @@ pub use attr_same::{same_attr, same_dict};
 pub use attr_tree::{AttrList, AttrTree, DictTree, NameList, NumberList};
 pub use bytes::{Bytes, NoMemory};
 pub use known::KNOWN;
-pub use makers::{entry, one, plain_op};
+pub use makers::{entry, one, plain_op, room_for};
 pub use name::Name;
 pub use op_copy::{copy_op, copy_values};
 pub use op_tree::{

@@ -10,6 +10,13 @@ use crate::op_tree::{IdList, OpTree, ValueList};
 use sqlite_items::Items;
 use std::alloc::Global;
 
+/// An empty list with room for so many items.
+pub fn room_for<T: Drop>(alloc: Global, count: usize) -> Result<Items<T>, NoMemory>
+    ensures { IfOk result (λ items. items ≡ []) }
+{
+    Ok(Items::from_vec(Vec::with_capacity(alloc, count)?))
+}
+
 /// A list of one item, with room for no more.
 pub fn one<T: Drop>(alloc: Global, item: T) -> Result<Items<T>, NoMemory>
     ensures { IfOk result (λ items. items ≡ item ∷ []) }
