@@ -1,4 +1,4 @@
-ghost use Rattle.std.specs.Prelude.{◌≡◌, ℕ, List, [], ◌∷◌, ◌++◌, ◌↔◌, IsTrue, IfOk, OnOk, OnErr, length};
+ghost use Rattle.std.specs.Prelude.{◌≡◌, ℕ, List, [], ◌∷◌, ◌++◌, ◌↔◌, IsTrue, IfOk, OnOk, OnErr, length, take};
 ghost use Rattle.std.specs.Fmt.{decimal, signed_decimal};
 
 use itoa::Buffer;
@@ -126,6 +126,13 @@ impl Bytes {
         ensures { IsTrue result ↔ (self.now ≡ text.now) }
     {
         self.as_slice() == text
+    }
+
+    /// Takes off what stands behind the first `len` bytes.
+    pub fn truncate(&mut self, len: usize)
+        ensures { self.new ≡ take len self.old }
+    {
+        self.bytes.truncate(len);
     }
 
     /// Appends a text.

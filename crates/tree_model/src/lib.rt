@@ -10,9 +10,6 @@ mod attr_tree;
 mod bytes;
 mod op_copy;
 mod op_tree;
-mod print_attr;
-mod print_name;
-mod print_type;
 mod type_copy;
 mod type_same;
 mod type_tree;
@@ -29,9 +26,6 @@ pub use op_tree::{
     BlockList, BlockTree, FuncList, FuncTree, IdList, ModuleTree, OpList, OpTree, RegionList,
     RegionTree, ValueList,
 };
-pub use print_attr::{attr_text, put_attr, put_dict};
-pub use print_name::{is_bare, put_name, put_string};
-pub use print_type::{is_function, put_type, put_types, type_text};
 pub use type_copy::{copy_type, copy_types};
 pub use type_same::{same_dim, same_dims, same_type, same_types};
 pub use type_tree::{Dim, DimList, TypeList, TypeTree};

@@ -1,4 +1,5 @@
 pub mod Joined
+pub mod Grew
 pub mod NameText
 pub mod TypeText
 pub mod AttrText

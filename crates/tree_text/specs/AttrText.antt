@@ -2,9 +2,9 @@
 use Rattle.std.specs.Prelude.{ℕ, Bool, true, false, ◌==◌, List, [], ◌∷◌, ◌++◌, if◌then◌else◌, map, codes, decimal, ℤ, pos}
 use Rattle.std.specs.Fmt.{signed_decimal}
 use Rattle.std.specs.Ordering.{int_eq}
-use Rattle.tree_model.specs.Joined.{joined}
-use Rattle.tree_model.specs.NameText.{string_text, name_text}
-use Rattle.tree_model.specs.TypeText.{type_text}
+use Rattle.tree_text.specs.Joined.{joined}
+use Rattle.tree_text.specs.NameText.{string_text, name_text}
+use Rattle.tree_text.specs.TypeText.{type_text}
 use Rattle.tree_model.specs.declared.type_tree.TypeTree.{TypeTree, out-TypeTree}
 use Rattle.tree_model.specs.declared.type_tree.TypeTree.TheOpen.{TypeTree-F}
 use Rattle.tree_model.specs.declared.attr_tree.AttrTree.{AttrTree}

@@ -1,8 +1,0 @@
-use Rattle.std.proofs.Common.{◌≡◌, ◌++◌, take, map}
-use Rattle.std.specs.Prelude.{codes}
-use Rattle.std.specs.Fmt.{signed_decimal}
-use Rattle.tree_model.specs.Joined.{led_by}
-use Rattle.tree_model.proofs.print_attr.put_numbers.Given as goal
-
-abbrev pub invariant-loop-n : goal.invariant-loop-n
-invariant-loop-n l = l.out ≡ l.initial.out ++ led_by (codes ", ") (map signed_decimal (take l.n-index l.rest))

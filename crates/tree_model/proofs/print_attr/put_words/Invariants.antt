@@ -1,7 +1,0 @@
-use Rattle.std.proofs.Common.{◌≡◌, ◌++◌, take}
-use Rattle.std.specs.Prelude.{codes}
-use Rattle.tree_model.specs.Joined.{led_by}
-use Rattle.tree_model.proofs.print_attr.put_words.Given as goal
-
-abbrev pub invariant-loop-word : goal.invariant-loop-word
-invariant-loop-word l = l.out ≡ l.initial.out ++ led_by (codes ", ") (take l.word-index l.rest)

@@ -1,7 +1,0 @@
-use Rattle.std.proofs.Common.{◌≡◌, ◌++◌, take}
-use Rattle.std.specs.Prelude.{flat_map}
-use Rattle.tree_model.specs.TypeText.{dim_text}
-use Rattle.tree_model.proofs.print_type.put_dims.Given as goal
-
-abbrev pub invariant-loop-dim : goal.invariant-loop-dim
-invariant-loop-dim l = l.out ≡ l.initial.out ++ flat_map dim_text (take l.dim-index l.dims)

@@ -1,0 +1,3 @@
+mod GrewLaws
+mod TypeLaws
+mod ShownLaws
