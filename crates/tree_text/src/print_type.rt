@@ -1,5 +1,6 @@
 //! Prints types.
-ghost use Rattle.std.specs.Prelude.{◌≡◌, ◌++◌, IfOk, OnOk, OnErr, map, flat_map};
+ghost use Rattle.std.specs.Prelude.{◌≡◌, ◌++◌, IfOk, OnOk, OnErr, true, map, flat_map, codes};
+ghost use Rattle.std.specs.Fmt.{decimal};
 ghost use Rattle.tree_text.specs.Grew.{Grew};
 ghost use Rattle.tree_text.specs.Joined.{led_by};
 ghost use Rattle.tree_text.specs.TypeText.{printed, text_at, llvm_lead, listed, results_at, dim_text, type_text, types_text};
@@ -82,22 +83,17 @@ pub fn add_type(out: &mut Bytes, inside: bool, t: &TypeTree) -> Result<(), NoMem
         TypeTree::Void => add_llvm(out, inside, b"void"),
         TypeTree::Struct(fields) => {
             add_llvm(out, inside, b"struct<")?;
-            add_types(out, true, fields.as_slice())?;
-            add(out, b">")
+            add_last_types(out, fields.as_slice())
         }
         TypeTree::Array(length, element) => {
             add_llvm(out, inside, b"array<")?;
-            add_number(out, *length)?;
-            add(out, b" x ")?;
-            add_type(out, true, element.get())?;
-            add(out, b">")
+            add_length(out, *length)?;
+            add_last_type(out, element.get())
         }
         TypeTree::LlvmFunc(output, inputs) => {
             add_llvm(out, inside, b"func<")?;
-            add_type(out, true, output.get())?;
-            add(out, b" ")?;
-            add_types(out, true, inputs.as_slice())?;
-            add(out, b">")
+            add_output(out, output.get())?;
+            add_last_types(out, inputs.as_slice())
         }
     }
 }
@@ -133,6 +129,39 @@ fn add_results(out: &mut Bytes, inside: bool, results: &[TypeTree]) -> Result<()
     add_types(out, inside, results)
 }
 
+// The output of a function of the llvm dialect.
+#[cycle(add_type)]
+#[tactic(auto, using(crate::proofs::TypeLaws::type_laws))]
+fn add_output(out: &mut Bytes, output: &TypeTree) -> Result<(), NoMemory>
+    ensures ok { OnOk result (out.new ≡ out.old ++ (text_at true (printed output.now) ++ codes " ")) }
+    ensures grew { Grew out.old out.new }
+{
+    add_type(out, true, output)?;
+    add(out, b" ")
+}
+
+// What stands last in a type of the llvm dialect, where it is a type.
+#[cycle(add_type)]
+#[tactic(auto, using(crate::proofs::TypeLaws::type_laws))]
+fn add_last_type(out: &mut Bytes, t: &TypeTree) -> Result<(), NoMemory>
+    ensures ok { OnOk result (out.new ≡ out.old ++ (text_at true (printed t.now) ++ codes ">")) }
+    ensures grew { Grew out.old out.new }
+{
+    add_type(out, true, t)?;
+    add(out, b">")
+}
+
+// What stands last in it, where it is types in parentheses.
+#[cycle(add_type)]
+#[tactic(auto, using(crate::proofs::TypeLaws::type_laws))]
+fn add_last_types(out: &mut Bytes, types: &[TypeTree]) -> Result<(), NoMemory>
+    ensures ok { OnOk result (out.new ≡ out.old ++ (listed true (map printed types.now) ++ codes ">")) }
+    ensures grew { Grew out.old out.new }
+{
+    add_types(out, true, types)?;
+    add(out, b">")
+}
+
 #[tactic(auto, using(crate::proofs::GrewLaws::grew_laws))]
 fn add_llvm(out: &mut Bytes, inside: bool, text: &[u8]) -> Result<(), NoMemory>
     ensures ok { OnOk result (out.new ≡ out.old ++ (llvm_lead inside ++ text.now)) }
@@ -142,6 +171,15 @@ fn add_llvm(out: &mut Bytes, inside: bool, text: &[u8]) -> Result<(), NoMemory>
         add(out, b"!llvm.")?;
     }
     add(out, text)
+}
+
+#[tactic(auto, using(crate::proofs::GrewLaws::grew_laws))]
+fn add_length(out: &mut Bytes, length: u64) -> Result<(), NoMemory>
+    ensures ok { OnOk result (out.new ≡ out.old ++ (decimal length ++ codes " x ")) }
+    ensures grew { Grew out.old out.new }
+{
+    add_number(out, length)?;
+    add(out, b" x ")
 }
 
 #[tactic(auto, using(crate::proofs::GrewLaws::grew_laws))]
