@@ -1,8 +1,10 @@
 //! Prints attributes and dictionaries.
+#![tactic(auto, using(crate::proofs::GrewLaws::grew_laws))]
+
 ghost use Rattle.std.specs.Prelude.{◌≡◌, ◌++◌, IfOk, OnOk, OnErr, map, codes};
 ghost use Rattle.tree_text.specs.Joined.{joined};
 ghost use Rattle.tree_text.specs.Grew.{Grew};
-ghost use Rattle.tree_text.specs.AttrText.{shown, is_bit, integer_text, dict_text, numbers_text, words_text, attr_text, value_text, bit_text};
+ghost use Rattle.tree_text.specs.AttrText.{shown, is_bit, integer_text, dict_text, entry_text, numbers_text, words_text, attr_text, value_text, bit_text};
 
 use crate::grow::{add, add_number, add_signed};
 use crate::print_name::{add_name, add_string};
@@ -20,7 +22,6 @@ pub fn attr_text(alloc: Global, a: &AttrTree) -> Result<Bytes, NoMemory>
 }
 
 /// Appends an attribute.
-#[tactic(auto, using(crate::proofs::GrewLaws::grew_laws))]
 pub fn put_attr(out: &mut Bytes, a: &AttrTree) -> Result<(), NoMemory>
     ensures ok { OnOk result (out.new ≡ out.old ++ attr_text a.now) }
     ensures err { OnErr result (out.new ≡ out.old) }
@@ -34,7 +35,6 @@ pub fn put_attr(out: &mut Bytes, a: &AttrTree) -> Result<(), NoMemory>
 }
 
 /// Appends the entries of a dictionary, without what stands round them.
-#[tactic(auto, using(crate::proofs::GrewLaws::grew_laws))]
 pub fn put_dict(out: &mut Bytes, entries: &[(Name, AttrTree)]) -> Result<(), NoMemory>
     ensures ok { OnOk result (out.new ≡ out.old ++ dict_text entries.now) }
     ensures err { OnErr result (out.new ≡ out.old) }
@@ -110,15 +110,23 @@ fn add_dict(out: &mut Bytes, entries: &[(Name, AttrTree)]) -> Result<(), NoMemor
     ensures grew { Grew out.old out.new }
 {
     if let [first, rest @ ..] = entries {
-        add_name(out, first.0.as_slice())?;
-        add_value(out, &first.1)?;
+        add_entry(out, first.0.as_slice(), &first.1)?;
         for entry in rest {
             add(out, b", ")?;
-            add_name(out, entry.0.as_slice())?;
-            add_value(out, &entry.1)?;
+            add_entry(out, entry.0.as_slice(), &entry.1)?;
         }
     }
     Ok(())
+}
+
+#[cycle(add_attr)]
+#[tactic(auto, using(crate::proofs::ShownLaws::shown_laws))]
+fn add_entry(out: &mut Bytes, name: &[u8], a: &AttrTree) -> Result<(), NoMemory>
+    ensures ok { OnOk result (out.new ≡ out.old ++ entry_text (name.now, shown a.now)) }
+    ensures grew { Grew out.old out.new }
+{
+    add_name(out, name)?;
+    add_value(out, a)
 }
 
 #[cycle(add_attr)]
@@ -152,7 +160,6 @@ fn is_bit(t: &TypeTree) -> bool
     }
 }
 
-#[tactic(auto, using(crate::proofs::GrewLaws::grew_laws))]
 fn add_integer(out: &mut Bytes, value: i64, t: &TypeTree) -> Result<(), NoMemory>
     ensures ok { OnOk result (out.new ≡ out.old ++ integer_text value t.now) }
     ensures grew { Grew out.old out.new }
@@ -165,7 +172,6 @@ fn add_integer(out: &mut Bytes, value: i64, t: &TypeTree) -> Result<(), NoMemory
     add_type(out, false, t)
 }
 
-#[tactic(auto, using(crate::proofs::GrewLaws::grew_laws))]
 fn add_bit(out: &mut Bytes, value: i64) -> Result<(), NoMemory>
     ensures ok { OnOk result (out.new ≡ out.old ++ bit_text value) }
     ensures grew { Grew out.old out.new }
@@ -176,7 +182,6 @@ fn add_bit(out: &mut Bytes, value: i64) -> Result<(), NoMemory>
     add(out, b"true")
 }
 
-#[tactic(auto, using(crate::proofs::GrewLaws::grew_laws))]
 fn add_numbers(out: &mut Bytes, numbers: &[i64]) -> Result<(), NoMemory>
     ensures ok { OnOk result (out.new ≡ out.old ++ numbers_text numbers.now) }
     ensures grew { Grew out.old out.new }
@@ -192,19 +197,28 @@ fn add_numbers(out: &mut Bytes, numbers: &[i64]) -> Result<(), NoMemory>
     Ok(())
 }
 
-#[tactic(auto, using(crate::proofs::GrewLaws::grew_laws))]
 fn add_words(out: &mut Bytes, words: &[Name]) -> Result<(), NoMemory>
     ensures ok { OnOk result (out.new ≡ out.old ++ words_text words.now) }
     ensures grew { Grew out.old out.new }
 {
-    if let [first, rest @ ..] = words {
+    if let [_, ..] = words {
         add(out, b"<")?;
+        add_joined(out, words)?;
+        add(out, b">")?;
+    }
+    Ok(())
+}
+
+fn add_joined(out: &mut Bytes, words: &[Name]) -> Result<(), NoMemory>
+    ensures ok { OnOk result (out.new ≡ out.old ++ joined (codes ", ") words.now) }
+    ensures grew { Grew out.old out.new }
+{
+    if let [first, rest @ ..] = words {
         add(out, first.as_slice())?;
         for word in rest {
             add(out, b", ")?;
             add(out, word.as_slice())?;
         }
-        add(out, b">")?;
     }
     Ok(())
 }
