@@ -67,7 +67,11 @@ fn lines_stand_in_one_order_however_they_are_split(rt: HostRuntime) -> Result<()
     for split in [[0, 0, 0, 0, 0, 0], [2, 0, 1, 2, 1, 0], [1, 2, 1, 1, 2, 2]] {
         let merged = merge(rt.alloc(), given(rt.alloc(), split)?)?;
         assert_eq!(rt; merged.len(), LINES.len());
-        for (diag, (function, pass, sequence, place, text)) in merged.as_slice().iter().zip(LINES.iter()) {
+        for (diag, (function, pass, sequence, place, text)) in merged
+            .as_slice()
+            .iter()
+            .zip(LINES.iter())
+        {
             let numbers = (diag.function, diag.pass, diag.sequence, diag.place);
             assert_eq!(rt; numbers, (*function, *pass, *sequence, *place));
             assert!(rt; diag.text.as_slice() == text.as_bytes(), "{text}");
