@@ -1,12 +1,10 @@
-//! Parts of operations that rows ask for and make.
+//! Parts of operations that rows ask for.
 
-ghost use Rattle.std.specs.Prelude.{◌≡◌, [], ◌∷◌, IfOk, option_copied};
+ghost use Rattle.std.specs.Prelude.{◌≡◌, option_copied};
 ghost use Rattle.std.specs.Str.{bytes_eq};
-ghost use Rattle.lowering_model.specs.Trees.{is_simple as simple, parts_of, plain_op as plain, property as found};
+ghost use Rattle.lowering_model.specs.Trees.{is_simple as simple, parts_of, property as found};
 
-use sqlite_items::Items;
-use std::alloc::Global;
-use tree_model::{AttrTree, Bytes, DictTree, IdList, Name, NoMemory, OpTree, ValueList};
+use tree_model::{AttrTree, Name, OpTree};
 
 /// Whether the name has these bytes.
 pub fn has_text(name: &Name, text: &[u8]) -> bool
@@ -27,16 +25,6 @@ pub fn property<'a>(name: &[u8], entries: &'a [(Name, AttrTree)]) -> Option<&'a 
     None
 }
 
-/// A dictionary of one entry.
-pub fn lone_entry(alloc: Global, name: &[u8], value: AttrTree) -> Result<DictTree, NoMemory>
-    ensures { IfOk result (λ d. d ≡ (name.now, value) ∷ []) }
-{
-    let name = Bytes::from_slice(alloc, name)?;
-    let mut entries = Items::new(alloc);
-    entries.push((name, value))?;
-    Ok(entries)
-}
-
 /// Whether the operation takes as many operands and gives one result, and has no region and no successor.
 pub fn is_simple(operands: usize, op: &OpTree) -> bool
     ensures { result ≡ simple operands (parts_of op.now) }
@@ -45,25 +33,4 @@ pub fn is_simple(operands: usize, op: &OpTree) -> bool
         && op.results.len() == 1
         && op.regions.is_empty()
         && op.successors.is_empty()
-}
-
-/// An operation with neither attributes nor regions nor successors.
-pub fn plain_op(
-    alloc: Global,
-    name: &[u8],
-    results: ValueList,
-    operands: IdList,
-    props: DictTree,
-) -> Result<OpTree, NoMemory>
-    ensures { IfOk result (λ op. op ≡ plain name.now results operands props) }
-{
-    Ok(OpTree {
-        name: Bytes::from_slice(alloc, name)?,
-        results,
-        operands,
-        props,
-        attrs: Items::new(alloc),
-        regions: Items::new(alloc),
-        successors: Items::new(alloc),
-    })
 }

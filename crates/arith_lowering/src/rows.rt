@@ -5,11 +5,11 @@ ghost use Rattle.lowering_model.specs.Trees.{parts_of};
 ghost use Rattle.lowering_model.specs.Rows.{lone};
 ghost use Rattle.lowering_model.specs.ArithRows.{addi_row, arith_row, constant_row, flag_props as new_flags, value_props as new_value};
 
-use crate::parts::{has_text, is_simple, lone_entry, plain_op, property};
+use crate::parts::{has_text, is_simple, property};
 use crate::types::{becomes, converted_values};
 use sqlite_items::Items;
 use std::alloc::{AllocError, Global};
-use tree_model::{AttrTree, Bytes, DictTree, NoMemory, OpTree, copy_names};
+use tree_model::{AttrTree, DictTree, Name, NoMemory, OpTree, copy_names, entry, plain_op};
 
 /// The product of an operation by the two rows.
 pub fn arith_product(alloc: Global, op: &OpTree) -> Result<Option<OpTree>, NoMemory>
@@ -53,7 +53,7 @@ fn value_props(alloc: Global, value: Option<&AttrTree>) -> Result<Option<DictTre
         return Ok(None);
     };
     let value = AttrTree::Int(*number, becomes(alloc, t)?);
-    Ok(Some(lone_entry(alloc, b"value", value)?))
+    Ok(Some(entry(alloc, b"value", value)?))
 }
 
 /// `arith.addi` becomes `llvm.add`.
@@ -89,9 +89,9 @@ fn flag_props(alloc: Global, flags: Option<&AttrTree>) -> Result<Option<DictTree
         None => Ok(Some(Items::new(alloc))),
         Some(AttrTree::Dialect(name, words)) if has_text(name, b"arith.overflow") => {
             let words = copy_names(alloc, words.as_slice())?;
-            let name = Bytes::from_slice(alloc, b"llvm.overflow")?;
+            let name = Name::from_slice(alloc, b"llvm.overflow")?;
             let flags = AttrTree::Dialect(name, words);
-            Ok(Some(lone_entry(alloc, b"overflowFlags", flags)?))
+            Ok(Some(entry(alloc, b"overflowFlags", flags)?))
         }
         Some(_) => Ok(None),
     }

@@ -86,6 +86,8 @@ impl Sink for MemSink {
         ensures exact { IsErrOf result SinkFault.Failed ↔ Contains self.old.fails self.old.calls }
         ensures counted { self.new.calls ≡ one_more self.old.calls }
         ensures fails { self.new.fails ≡ self.old.fails }
+        ensures whole { IfOk result (λ count. count ≡ length bytes.now) }
+        ensures risen { IsErrOf result SinkFault.Failed → self.new.faults ≡ one_more self.old.faults }
     {
         let fails = self.fails.as_slice().contains(&self.calls);
         self.calls = self.calls.saturating_add(1);
@@ -134,7 +136,12 @@ impl Sink for SureSink {
 
     ghost faults = { λ _. 0 };
 
-    fn write(&mut self, bytes: &[u8]) -> Result<usize, SinkFault> {
+    fn write(&mut self, bytes: &[u8]) -> Result<usize, SinkFault>
+        ensures takes { TakesSome result bytes.now }
+        ensures held { WriteAppends (Some self.old) (Some self.new) result bytes.now }
+        ensures cause { WriteHasCause 0 0 result }
+        ensures whole { IfOk result (λ count. count ≡ length bytes.now) }
+    {
         append(&mut self.bytes, bytes)
     }
 }
@@ -162,7 +169,14 @@ impl<W: Write> Sink for StdSink<W> {
 
     ghost faults = { λ s. s.faults };
 
-    fn write(&mut self, bytes: &[u8]) -> Result<usize, SinkFault> {
+    fn write(&mut self, bytes: &[u8]) -> Result<usize, SinkFault>
+        ensures takes { TakesSome result bytes.now }
+        ensures held { WriteAppends (W.contents self.old.writer) (W.contents self.new.writer) result bytes.now }
+        ensures cause { WriteHasCause self.old.faults self.new.faults result }
+        ensures nothing { bytes.now ≡ [] → (result ≡ Ok 0) × (self.new ≡ self.old) }
+        ensures risen { IsErrOf result SinkFault.Failed → self.new.faults ≡ one_more self.old.faults }
+        ensures no_memory { IsErrOf result SinkFault.NoMemory → ⊥ }
+    {
         if bytes.is_empty() {
             return Ok(0);
         }

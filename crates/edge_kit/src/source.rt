@@ -1,6 +1,6 @@
 //! Where the bytes of the input come from.
 
-ghost use Rattle.std.specs.Prelude.{◌≡◌, ℕ, ◌+◌, ◌-◌, ◌<◌, ◌≤◌, ◌↔◌, min, List, length, take, drop, IsErr, Contains, IsTrue, Option, Some, None};
+ghost use Rattle.std.specs.Prelude.{◌≡◌, ℕ, ◌+◌, ◌-◌, ◌<◌, ◌≤◌, ◌↔◌, min, List, length, take, drop, IsErr, IfOk, OnErr, Contains, IsTrue, Option, Some, None};
 ghost use Rattle.std.specs.Io.{ReadsAtMost};
 ghost use Rattle.std.specs.Io.KnownBytes.{ReadConsumes};
 ghost use Rattle.edge_kit.specs.Edges.{ReadHasCause};
@@ -77,6 +77,8 @@ impl Source for MemSource {
         ensures exact { IsErr result ↔ Contains self.old.fails self.old.calls }
         ensures counted { self.new.calls ≡ one_more self.old.calls }
         ensures fails { self.new.fails ≡ self.old.fails }
+        ensures most { IfOk result (λ count. count ≡ min (length self.old.left) (length into.old)) }
+        ensures risen { OnErr result (self.new.faults ≡ one_more self.old.faults) }
     {
         let fails = self.fails.as_slice().contains(&self.calls);
         self.calls = self.calls.saturating_add(1);
@@ -121,7 +123,12 @@ impl Source for SureSource {
 
     ghost faults = { λ _. 0 };
 
-    fn read(&mut self, into: &mut [u8]) -> Result<usize, Failed> {
+    fn read(&mut self, into: &mut [u8]) -> Result<usize, Failed>
+        ensures bound { ReadsAtMost result into.new }
+        ensures bytes { ReadConsumes (Some self.old) (Some self.new) result into.new }
+        ensures cause { ReadHasCause 0 0 result }
+        ensures most { IfOk result (λ count. count ≡ min (length self.old) (length into.old)) }
+    {
         let count = copy_front(&self.bytes.as_slice()[self.at..], into);
         self.at += count;
         Ok(count)
@@ -150,7 +157,12 @@ impl<R: Read> Source for StdSource<R> {
 
     ghost faults = { λ s. s.faults };
 
-    fn read(&mut self, into: &mut [u8]) -> Result<usize, Failed> {
+    fn read(&mut self, into: &mut [u8]) -> Result<usize, Failed>
+        ensures bound { ReadsAtMost result into.new }
+        ensures bytes { ReadConsumes (R.remaining self.old.reader) (R.remaining self.new.reader) result into.new }
+        ensures cause { ReadHasCause self.old.faults self.new.faults result }
+        ensures risen { OnErr result (self.new.faults ≡ one_more self.old.faults) }
+    {
         match self.reader.read(into) {
             Ok(count) => Ok(count),
             Err(_) => {

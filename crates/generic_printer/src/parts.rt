@@ -1,76 +1,48 @@
+//! The parts of an operation's text besides its regions.
+
 ghost use Rattle.std.specs.Prelude.{◌≡◌, ◌++◌, OnOk, map, false};
-ghost use Rattle.tree_model.specs.TypeText.{listed, results_text, printed, text_at};
-ghost use Rattle.text_model.specs.PrintedOps.{name_of, found_name, found_type, found_label, group_of, found_group, results_lead, operands_text, successors_text, props_text, attrs_text, op_signature, argument_text, arguments_text, label_line};
+ghost use Rattle.tree_text.specs.TypeText.{listed, results_text, printed, text_at};
+ghost use Rattle.text_model.specs.PrintedOps.{found_number, found_name, found_type, found_label, results_lead, operands_text, successors_text, props_text, attrs_text, op_signature, argument_text, arguments_text, label_line};
 ghost use Rattle.generic_printer.specs.NamesIn.{names_in};
 
 use crate::table::Table;
 use text_model::ValueName;
-use tree_model::{AttrTree, Bytes, Name, NoMemory, TypeTree, is_function, put_dict, put_type};
+use tree_model::{AttrTree, Bytes, Name, NoMemory, TypeTree};
+use tree_text::{is_function, put_dict, put_type};
 
-fn put_name(out: &mut Bytes, name: ValueName) -> Result<(), NoMemory>
-    ensures { OnOk result (out.new ≡ out.old ++ name_of name) }
+fn put_number_of(out: &mut Bytes, name: Option<ValueName>) -> Result<(), NoMemory>
+    ensures { OnOk result (out.new ≡ out.old ++ found_number name) }
 {
     match name {
-        ValueName::Argument(n) => {
+        Some(ValueName::Argument(n)) => {
             out.put(b"%arg")?;
             out.put_number(n)
         }
-        ValueName::Single(n) => {
+        Some(ValueName::Single(n) | ValueName::Part(n, _)) => {
             out.put(b"%")?;
             out.put_number(n)
         }
-        ValueName::Part(n, k) => {
-            out.put(b"%")?;
-            out.put_number(n)?;
-            out.put(b"#")?;
-            out.put_number(k)
-        }
-    }
-}
-
-fn put_group_of(out: &mut Bytes, name: ValueName) -> Result<(), NoMemory>
-    ensures { OnOk result (out.new ≡ out.old ++ group_of name) }
-{
-    match name {
-        ValueName::Argument(n) => {
-            out.put(b"%arg")?;
-            out.put_number(n)
-        }
-        ValueName::Single(n) => {
-            out.put(b"%")?;
-            out.put_number(n)
-        }
-        ValueName::Part(n, _) => {
-            out.put(b"%")?;
-            out.put_number(n)
-        }
-    }
-}
-
-fn put_value(out: &mut Bytes, table: &Table, value: u32) -> Result<(), NoMemory>
-    ensures { OnOk result (out.new ≡ out.old ++ found_name ((names_in table.now).value value)) }
-{
-    match table.values.get(&value) {
-        Some(named) => put_name(out, named.name),
         None => out.put(b"%?"),
     }
 }
 
-fn put_group(out: &mut Bytes, table: &Table, value: u32) -> Result<(), NoMemory>
-    ensures { OnOk result (out.new ≡ out.old ++ found_group ((names_in table.now).value value)) }
+fn put_name(out: &mut Bytes, name: Option<ValueName>) -> Result<(), NoMemory>
+    ensures { OnOk result (out.new ≡ out.old ++ found_name name) }
 {
-    match table.values.get(&value) {
-        Some(named) => put_group_of(out, named.name),
-        None => out.put(b"%?"),
+    put_number_of(out, name)?;
+    if let Some(ValueName::Part(_, k)) = name {
+        out.put(b"#")?;
+        out.put_number(k)?;
     }
+    Ok(())
 }
 
 fn put_value_type(out: &mut Bytes, table: &Table, value: u32) -> Result<(), NoMemory>
     ensures { OnOk result (out.new
-        ≡ out.old ++ text_at false (found_type ((names_in table.now).value value))) }
+        ≡ out.old ++ text_at false (found_type ((names_in table.now).type_of value))) }
 {
     match table.values.get(&value) {
-        Some(named) => put_type(out, false, &named.of),
+        Some(named) => put_type(out, named.of),
         None => out.put(b"?"),
     }
 }
@@ -98,11 +70,11 @@ pub fn put_results_lead(
     match results {
         [] => Ok(()),
         [only] => {
-            put_value(out, table, only.0)?;
+            put_name(out, table.name_of(only.0))?;
             out.put(b" = ")
         }
         [first, ..] => {
-            put_group(out, table, first.0)?;
+            put_number_of(out, table.name_of(first.0))?;
             out.put(b":")?;
             out.put_number(results.len() as u64)?;
             out.put(b" = ")
@@ -116,10 +88,10 @@ pub fn put_operands(out: &mut Bytes, table: &Table, operands: &[u32]) -> Result<
 {
     out.put(b"(")?;
     if let [first, rest @ ..] = operands {
-        put_value(out, table, *first)?;
+        put_name(out, table.name_of(*first))?;
         for value in rest {
             out.put(b", ")?;
-            put_value(out, table, *value)?;
+            put_name(out, table.name_of(*value))?;
         }
     }
     out.put(b")")
@@ -182,7 +154,7 @@ pub fn put_signature(
 
 fn put_inputs(out: &mut Bytes, table: &Table, operands: &[u32]) -> Result<(), NoMemory>
     ensures { OnOk result (out.new ≡ out.old
-        ++ listed false (map (λ v. found_type ((names_in table.now).value v)) operands.now)) }
+        ++ listed false (map (λ v. found_type ((names_in table.now).type_of v)) operands.now)) }
 {
     out.put(b"(")?;
     if let [first, rest @ ..] = operands {
@@ -200,7 +172,7 @@ fn put_outputs(out: &mut Bytes, results: &[(u32, TypeTree)]) -> Result<(), NoMem
 {
     if let [only] = results {
         if !is_function(&only.1) {
-            return put_type(out, false, &only.1);
+            return put_type(out, &only.1);
         }
     }
     put_listed_outputs(out, results)
@@ -211,10 +183,10 @@ fn put_listed_outputs(out: &mut Bytes, results: &[(u32, TypeTree)]) -> Result<()
 {
     out.put(b"(")?;
     if let [first, rest @ ..] = results {
-        put_type(out, false, &first.1)?;
+        put_type(out, &first.1)?;
         for value in rest {
             out.put(b", ")?;
-            put_type(out, false, &value.1)?;
+            put_type(out, &value.1)?;
         }
     }
     out.put(b")")
@@ -223,9 +195,9 @@ fn put_listed_outputs(out: &mut Bytes, results: &[(u32, TypeTree)]) -> Result<()
 fn put_argument(out: &mut Bytes, table: &Table, value: &(u32, TypeTree)) -> Result<(), NoMemory>
     ensures { OnOk result (out.new ≡ out.old ++ argument_text (names_in table.now) value.now) }
 {
-    put_value(out, table, value.0)?;
+    put_name(out, table.name_of(value.0))?;
     out.put(b": ")?;
-    put_type(out, false, &value.1)
+    put_type(out, &value.1)
 }
 
 fn put_arguments(out: &mut Bytes, table: &Table, values: &[(u32, TypeTree)]) -> Result<(), NoMemory>

@@ -1,4 +1,6 @@
-ghost use Rattle.std.specs.Prelude.{◌≡◌, ◌++◌, IfOk, OnOk, map, flat_map, codes};
+//! The text of a module: its functions, their operations and the blocks in them.
+
+ghost use Rattle.std.specs.Prelude.{◌≡◌, ◌++◌, IfOk, OnOk, OnErr, map, flat_map, codes};
 ghost use Rattle.tree_model.specs.declared.op_tree.OpTree.{out-OpTree};
 ghost use Rattle.text_model.specs.PrintedOps.{head_text, tail_text, op_text, region_text, block_parts, regions_text, blocks_text, first_block, block_text, shows_label, has_none};
 ghost use Rattle.text_model.specs.Printed.{func_text, funcs_text, module_text};
@@ -11,9 +13,8 @@ use crate::parts::{
 };
 use crate::table::{Table, next};
 use std::alloc::Global;
-use tree_model::{
-    BlockTree, Bytes, FuncTree, ModuleTree, NoMemory, OpTree, RegionTree, put_string,
-};
+use tree_model::{BlockTree, Bytes, FuncTree, ModuleTree, NoMemory, OpTree, RegionTree};
+use tree_text::put_string;
 
 /// The bytes that a module prints as. Each function takes two passes: one that names its values and
 /// blocks in a table, and one that writes. A look-up takes the same time however long the function.
@@ -38,17 +39,26 @@ fn put_funcs(alloc: Global, out: &mut Bytes, funcs: &[FuncTree]) -> Result<(), N
         return out.put(b"^bb0:\n");
     }
     for f in funcs {
-        put_func(alloc, out, f)?;
+        put_lines(alloc, out, f)?;
     }
     Ok(())
 }
 
-/// Appends a function as it stands in a module.
-pub fn put_func(alloc: Global, out: &mut Bytes, f: &FuncTree) -> Result<(), NoMemory>
+fn put_lines(alloc: Global, out: &mut Bytes, f: &FuncTree) -> Result<(), NoMemory>
     ensures { OnOk result (out.new ≡ out.old ++ func_text f.now) }
 {
     let table = table_of(alloc, &f.op)?;
     put_op(alloc, out, &table, b"  ", &f.op)
+}
+
+/// Appends a function as it stands in a module.
+pub fn put_func(alloc: Global, out: &mut Bytes, f: &FuncTree) -> Result<(), NoMemory>
+    ensures ok { OnOk result (out.new ≡ out.old ++ func_text f.now) }
+    ensures err { OnErr result (out.new ≡ out.old) }
+{
+    let mut lines = Bytes::new(alloc);
+    put_lines(alloc, &mut lines, f)?;
+    out.put(lines.as_slice())
 }
 
 fn deeper(alloc: Global, indent: &[u8]) -> Result<Bytes, NoMemory>

@@ -1,18 +1,28 @@
-ghost use Rattle.std.specs.Prelude.{◌≡◌, ◌+◌, IfOk, OnOk};
-ghost use Rattle.text_model.specs.PrintedNames.{no_names, with_name, with_argument, with_single, with_arguments, with_singles, with_parts, with_group, with_results, with_target, with_targets, with_label, with_block_arguments};
-ghost use Rattle.generic_printer.specs.NamesIn.{names_in};
+//! The table of a function: the names and the types of its values, and the positions of its blocks.
+
+ghost use Rattle.std.specs.Prelude.{◌≡◌, ◌+◌, IfOk, OnOk, map, option_map};
+ghost use Rattle.text_model.specs.PrintedPlaces.{argument_at, single_at, group_at, successor_at, block_at, result_places, argument_places};
+ghost use Rattle.generic_printer.specs.Counters.{at_start, with_name, with_parts, with_place, with_places};
+ghost use Rattle.generic_printer.specs.NamesIn.{names_in, counters_in};
 
 use std::alloc::{AllocError, Global};
 use std::collections::{HashMap, HashSet};
-use text_model::{Named, ValueName};
-use tree_model::{NoMemory, TypeTree, copy_type};
+use text_model::ValueName;
+use tree_model::{NoMemory, TypeTree};
+
+/// A value's name with its type, which stays in the tree.
+#[derive(Clone, Copy)]
+pub struct Named<'a> {
+    pub name: ValueName,
+    pub of: &'a TypeTree,
+}
 
 /// What the text of a function looks up: made in one pass, so that a look-up takes no scan.
 #[derive(Drop)]
-pub struct Table {
+pub struct Table<'a> {
     pub next_argument: u64,
     pub next_other: u64,
-    pub values: HashMap<u32, Named>,
+    pub values: HashMap<u32, Named<'a>>,
     pub positions: HashMap<u32, u64>,
     pub targets: HashSet<u32>,
 }
@@ -27,9 +37,9 @@ pub fn next(n: u64) -> Result<u64, NoMemory>
     Ok(n + 1)
 }
 
-impl Table {
-    pub fn new(alloc: Global) -> Table
-        ensures { names_in result ≡ no_names }
+impl<'a> Table<'a> {
+    pub fn new(alloc: Global) -> Table<'a>
+        ensures { counters_in result ≡ at_start }
     {
         Table {
             next_argument: 0,
@@ -40,98 +50,96 @@ impl Table {
         }
     }
 
-    fn name(
-        &mut self,
-        alloc: Global,
-        value: &(u32, TypeTree),
-        name: ValueName,
-    ) -> Result<(), NoMemory>
-        ensures { OnOk result (names_in self.new ≡ with_name (names_in self.old) value.now name) }
+    /// The name of a value, where the function defines it.
+    pub fn name_of(&self, value: u32) -> Option<ValueName>
+        ensures { result ≡ (names_in self.now).name value }
+    {
+        match self.values.get(&value) {
+            Some(named) => Some(named.name),
+            None => None,
+        }
+    }
+
+    fn name(&mut self, value: &'a (u32, TypeTree), name: ValueName) -> Result<(), NoMemory>
+        ensures names { OnOk result (names_in self.new ≡ with_name (names_in self.old) value.now name) }
+        ensures first { OnOk result (self.new.next_argument ≡ self.old.next_argument) }
+        ensures second { OnOk result (self.new.next_other ≡ self.old.next_other) }
     {
         if self.values.contains_key(&value.0) {
             return Ok(());
         }
-        let of = copy_type(alloc, &value.1)?;
-        self.values.insert(value.0, Named { name, of })?;
+        let named = Named { name, of: &value.1 };
+        self.values.insert(value.0, named)?;
         Ok(())
     }
 
-    fn name_argument(&mut self, alloc: Global, value: &(u32, TypeTree)) -> Result<(), NoMemory>
-        ensures { OnOk result (names_in self.new ≡ with_argument (names_in self.old) value.now) }
+    fn name_argument(&mut self, value: &'a (u32, TypeTree)) -> Result<(), NoMemory>
+        ensures { OnOk result (counters_in self.new
+            ≡ with_place (counters_in self.old) (argument_at value.now)) }
     {
-        self.name(alloc, value, ValueName::Argument(self.next_argument))?;
+        self.name(value, ValueName::Argument(self.next_argument))?;
         self.next_argument = next(self.next_argument)?;
         Ok(())
     }
 
-    fn name_single(&mut self, alloc: Global, value: &(u32, TypeTree)) -> Result<(), NoMemory>
-        ensures { OnOk result (names_in self.new ≡ with_single (names_in self.old) value.now) }
+    fn name_single(&mut self, value: &'a (u32, TypeTree)) -> Result<(), NoMemory>
+        ensures { OnOk result (counters_in self.new
+            ≡ with_place (counters_in self.old) (single_at value.now)) }
     {
-        self.name(alloc, value, ValueName::Single(self.next_other))?;
+        self.name(value, ValueName::Single(self.next_other))?;
         self.next_other = next(self.next_other)?;
         Ok(())
     }
 
-    fn name_arguments(&mut self, alloc: Global, values: &[(u32, TypeTree)]) -> Result<(), NoMemory>
-        ensures { OnOk result (names_in self.new ≡ with_arguments (names_in self.old) values.now) }
+    fn name_arguments(&mut self, values: &'a [(u32, TypeTree)]) -> Result<(), NoMemory>
+        ensures { OnOk result (counters_in self.new
+            ≡ with_places (counters_in self.old) (map argument_at values.now)) }
     {
         for value in values {
-            self.name_argument(alloc, value)?;
+            self.name_argument(value)?;
         }
         Ok(())
     }
 
-    fn name_singles(&mut self, alloc: Global, values: &[(u32, TypeTree)]) -> Result<(), NoMemory>
-        ensures { OnOk result (names_in self.new ≡ with_singles (names_in self.old) values.now) }
+    fn name_singles(&mut self, values: &'a [(u32, TypeTree)]) -> Result<(), NoMemory>
+        ensures { OnOk result (counters_in self.new
+            ≡ with_places (counters_in self.old) (map single_at values.now)) }
     {
         for value in values {
-            self.name_single(alloc, value)?;
+            self.name_single(value)?;
         }
         Ok(())
     }
 
-    fn name_parts(&mut self, alloc: Global, values: &[(u32, TypeTree)]) -> Result<(), NoMemory>
-        ensures { OnOk result (names_in self.new ≡ with_parts (names_in self.old) 0 values.now) }
+    fn name_group(&mut self, values: &'a [(u32, TypeTree)]) -> Result<(), NoMemory>
+        ensures { OnOk result (counters_in self.new
+            ≡ with_place (counters_in self.old) (group_at values.now)) }
     {
         let mut k = 0;
         for value in values {
-            self.name(alloc, value, ValueName::Part(self.next_other, k))?;
+            self.name(value, ValueName::Part(self.next_other, k))?;
             k = next(k)?;
         }
-        Ok(())
-    }
-
-    fn name_group(&mut self, alloc: Global, values: &[(u32, TypeTree)]) -> Result<(), NoMemory>
-        ensures { OnOk result (names_in self.new ≡ with_group (names_in self.old) values.now) }
-    {
-        self.name_parts(alloc, values)?;
         self.next_other = next(self.next_other)?;
         Ok(())
     }
 
-    pub fn name_results(
-        &mut self,
-        alloc: Global,
-        values: &[(u32, TypeTree)],
-    ) -> Result<(), NoMemory>
-        ensures { OnOk result (names_in self.new ≡ with_results (names_in self.old) values.now) }
+    /// The results of an operation.
+    pub fn name_results(&mut self, values: &'a [(u32, TypeTree)]) -> Result<(), NoMemory>
+        ensures { OnOk result (counters_in self.new
+            ≡ with_places (counters_in self.old) (result_places values.now)) }
     {
         match values {
             [] => Ok(()),
-            [only] => self.name_single(alloc, only),
-            _ => self.name_group(alloc, values),
+            [only] => self.name_single(only),
+            _ => self.name_group(values),
         }
     }
 
-    fn name_target(&mut self, label: u32) -> Result<(), NoMemory>
-        ensures { OnOk result (names_in self.new ≡ with_target (names_in self.old) label) }
-    {
-        self.targets.insert(label)?;
-        Ok(())
-    }
-
+    /// The successors of an operation.
     pub fn name_targets(&mut self, labels: &[u32]) -> Result<(), NoMemory>
-        ensures { OnOk result (names_in self.new ≡ with_targets (names_in self.old) labels.now) }
+        ensures { OnOk result (counters_in self.new
+            ≡ with_places (counters_in self.old) (map successor_at labels.now)) }
     {
         for label in labels {
             self.name_target(*label)?;
@@ -139,8 +147,18 @@ impl Table {
         Ok(())
     }
 
-    pub fn name_label(&mut self, position: u64, label: u32) -> Result<(), NoMemory>
-        ensures { OnOk result (names_in self.new ≡ with_label (names_in self.old) position label) }
+    fn name_target(&mut self, label: u32) -> Result<(), NoMemory>
+        ensures { OnOk result (counters_in self.new
+            ≡ with_place (counters_in self.old) (successor_at label)) }
+    {
+        self.targets.insert(label)?;
+        Ok(())
+    }
+
+    /// The block at a position of its region, by its label.
+    pub fn name_block(&mut self, position: u64, label: u32) -> Result<(), NoMemory>
+        ensures { OnOk result (counters_in self.new
+            ≡ with_place (counters_in self.old) (block_at position label)) }
     {
         if self.positions.contains_key(&label) {
             return Ok(());
@@ -149,18 +167,18 @@ impl Table {
         Ok(())
     }
 
+    /// The arguments of the block at a position of its region.
     pub fn name_block_arguments(
         &mut self,
-        alloc: Global,
         position: u64,
-        values: &[(u32, TypeTree)],
+        values: &'a [(u32, TypeTree)],
     ) -> Result<(), NoMemory>
-        ensures { OnOk result (names_in self.new
-            ≡ with_block_arguments (names_in self.old) position values.now) }
+        ensures { OnOk result (counters_in self.new
+            ≡ with_places (counters_in self.old) (argument_places position values.now)) }
     {
         if position == 0 {
-            return self.name_arguments(alloc, values);
+            return self.name_arguments(values);
         }
-        self.name_singles(alloc, values)
+        self.name_singles(values)
     }
 }

@@ -3,11 +3,11 @@
 ghost use Rattle.std.specs.Prelude.{◌≡◌, codes, if◌then◌else◌};
 ghost use Rattle.std.specs.List.{list_all};
 ghost use Rattle.std.specs.Str.{bytes_eq};
-ghost use Rattle.mlir_lex.specs.Bytes.{is_digit, is_bare_byte, starts_bare};
-ghost use Rattle.text_model.specs.FirstWords.{bare_kind, bracket_kind, is_bare, kind_of, sign_kind, text_kind};
+ghost use Rattle.mlir_lex.specs.Bytes.{is_digit};
+ghost use Rattle.text_model.specs.FirstWords.{bare_kind, bracket_kind, kind_of, sign_kind, text_kind};
 
 use crate::slices::{inside, same};
-use mlir_lex::{TokenKind, is_bare_byte, is_digit, starts_bare};
+use mlir_lex::{TokenKind, is_bare, is_digit};
 use text_model::first::FirstKind;
 
 /// The kind of a token with these bytes.
@@ -128,22 +128,6 @@ fn number_kind(piece: &[u8]) -> FirstKind
     } else {
         FirstKind::Other
     }
-}
-
-#[tactic(auto, unfolding(text_model::specs::FirstWords::is_bare))]
-fn is_bare(piece: &[u8]) -> bool
-    ensures { result ≡ is_bare piece.now }
-{
-    match piece {
-        [] => false,
-        [first, rest @ ..] => starts_bare(*first) && all_bare(rest),
-    }
-}
-
-fn all_bare(piece: &[u8]) -> bool
-    ensures { result ≡ list_all is_bare_byte piece.now }
-{
-    piece.iter().all(|b| is_bare_byte(*b))
 }
 
 fn all_digits(piece: &[u8]) -> bool

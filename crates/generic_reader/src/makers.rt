@@ -2,7 +2,8 @@
 
 ghost use Rattle.std.specs.Prelude.{◌≡◌, [], ◌∷◌, ℕ, List, IfOk, length, codes};
 ghost use Rattle.tree_model.specs.declared.attr_tree.AttrTree as attr;
-ghost use Rattle.text_model.specs.FirstNames.{flags_of, i32 as i32_type, in_scope, maker_op, maker_resolves, number_of, plain_op};
+ghost use Rattle.text_model.specs.FirstNames.{flags_of, i32 as i32_type, in_scope, maker_op, maker_resolves, number_of};
+ghost use Rattle.tree_model.specs.Makers.{plain_op};
 ghost use Rattle.generic_reader.specs.Scopes.{Stands};
 ghost use Rattle.generic_reader.specs.When.{when};
 
@@ -11,7 +12,7 @@ use crate::scope::Scope;
 use sqlite_items::Items;
 use std::alloc::{AllocError, Global};
 use text_model::first::{Maker, Word};
-use tree_model::{AttrTree, Bytes, DictTree, IdList, OpTree, TypeTree, ValueList};
+use tree_model::{AttrTree, DictTree, Name, OpTree, TypeTree, ValueList, entry, one, plain_op};
 
 /// A count as the number of a value.
 pub fn number(count: usize) -> Result<u32, AllocError>
@@ -20,44 +21,11 @@ pub fn number(count: usize) -> Result<u32, AllocError>
     u32::try_from(count).map_err(|_| AllocError)
 }
 
-/// An operation of one name, with its results, operands and properties alone.
-pub fn plain_op(
-    alloc: Global,
-    name: &[u8],
-    results: ValueList,
-    operands: IdList,
-    props: DictTree,
-) -> Result<OpTree, AllocError>
-    ensures { IfOk result (λ op. op ≡ plain_op name.now results operands props) }
-{
-    Ok(OpTree {
-        name: Bytes::from_slice(alloc, name)?,
-        results,
-        operands,
-        props,
-        attrs: Items::new(alloc),
-        regions: Items::new(alloc),
-        successors: Items::new(alloc),
-    })
-}
-
-/// The one entry of a dictionary.
-fn entry(alloc: Global, name: &[u8], value: AttrTree) -> Result<DictTree, AllocError>
-    ensures { IfOk result (λ d. d ≡ (name.now, value) ∷ []) }
-{
-    let name = Bytes::from_slice(alloc, name)?;
-    let mut entries = Items::new(alloc);
-    entries.push((name, value))?;
-    Ok(entries)
-}
-
 /// The one result of an operation, with the next number.
 fn next_value(alloc: Global, scope: &Scope) -> Result<ValueList, AllocError>
     ensures { IfOk result (λ values. values ≡ (length scope.now.words.items, i32_type) ∷ []) }
 {
-    let mut values = Items::new(alloc);
-    values.push((number(scope.len())?, TypeTree::Int(32)))?;
-    Ok(values)
+    one(alloc, (number(scope.len())?, TypeTree::Int(32)))
 }
 
 /// A constant that makes the next value.
@@ -76,9 +44,8 @@ fn flags_of(alloc: Global, flags: bool) -> Result<DictTree, AllocError>
     if !flags {
         return Ok(Items::new(alloc));
     }
-    let mut words = Items::new(alloc);
-    words.push(Bytes::from_slice(alloc, b"none")?)?;
-    let name = Bytes::from_slice(alloc, b"arith.overflow")?;
+    let words = one(alloc, Name::from_slice(alloc, b"none")?)?;
+    let name = Name::from_slice(alloc, b"arith.overflow")?;
     entry(alloc, b"overflowFlags", AttrTree::Dialect(name, words))
 }
 
@@ -154,12 +121,12 @@ pub fn return_op(
     let Some(place) = scope.place_of(text, answer) else {
         return Ok(None);
     };
-    let operands = vec![in alloc; number(place)?]?;
+    let operands = one(alloc, number(place)?)?;
     let op = plain_op(
         alloc,
         b"func.return",
         Items::new(alloc),
-        Items::from_vec(operands),
+        operands,
         Items::new(alloc),
     )?;
     Ok(Some(op))

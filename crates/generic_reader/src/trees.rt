@@ -15,8 +15,8 @@ use sqlite_items::Items;
 use std::alloc::{AllocError, Global};
 use text_model::first::{FirstFunc, Line, Word};
 use tree_model::{
-    AttrTree, BlockTree, Bytes, DictTree, FuncList, FuncTree, ModuleTree, OpList, OpTree,
-    RegionTree, TypeList, TypeTree, ValueList,
+    AttrTree, BlockTree, Bytes, DictTree, FuncList, FuncTree, ModuleTree, Name, OpList, OpTree,
+    RegionTree, TypeList, TypeTree, ValueList, one,
 };
 
 /// The operations of the lines, where their names are in order behind those in scope. They are in scope then too.
@@ -94,13 +94,11 @@ fn signature_props(alloc: Global, text: &[u8], func: &FirstFunc) -> Result<DictT
     let inputs = types(alloc, func.inputs.len())?;
     let ty = TypeTree::Func(inputs, types(alloc, 1)?);
     let name = Bytes::from_slice(alloc, name_of(text, func))?;
-    let mut props = Items::new(alloc);
-    props.push((
-        Bytes::from_slice(alloc, b"function_type")?,
-        AttrTree::OfType(ty),
-    ))?;
-    props.push((Bytes::from_slice(alloc, b"sym_name")?, AttrTree::Str(name)))?;
-    Ok(props)
+    let type_key = Name::from_slice(alloc, b"function_type")?;
+    let name_key = Name::from_slice(alloc, b"sym_name")?;
+    let props =
+        vec![in alloc; (type_key, AttrTree::OfType(ty)), (name_key, AttrTree::Str(name))]?;
+    Ok(Items::from_vec(props))
 }
 
 /// A function of one block with these operations.
@@ -113,16 +111,15 @@ fn func_with(
     ensures { IfOk result (λ f. ops ≡ line_ops text.now func.now.args func.now.lines func.now.answer → f ≡ func_tree text.now func.now) }
 {
     let args = numbered(alloc, func.args.as_slice())?;
-    let mut blocks = Items::new(alloc);
-    blocks.push(BlockTree {
+    let block = BlockTree {
         label: 0,
         args,
         ops,
-    })?;
-    let mut regions = Items::new(alloc);
-    regions.push(RegionTree { blocks })?;
+    };
+    let blocks = one(alloc, block)?;
+    let regions = one(alloc, RegionTree { blocks })?;
     let op = OpTree {
-        name: Bytes::from_slice(alloc, b"func.func")?,
+        name: Name::from_slice(alloc, b"func.func")?,
         results: Items::new(alloc),
         operands: Items::new(alloc),
         props: signature_props(alloc, text, func)?,

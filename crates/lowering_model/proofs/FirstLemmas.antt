@@ -8,7 +8,8 @@ use Rattle.tree_model.specs.declared.attr_tree.AttrTree as attr
 use Rattle.tree_model.specs.declared.attr_tree.AttrTree.TheVariants as attr_parts
 use Rattle.tree_model.specs.declared.op_tree.OpTree.{OpTree, out-roll-OpTree}
 use Rattle.lowering_model.specs.Types.{becomes, changed_at, is_llvm_value, llvm_value_at, new_type}
-use Rattle.lowering_model.specs.Trees.{Values, Entries, Parts, plain_op, parts_of, property, type_of}
+use Rattle.tree_model.specs.Makers.{plain_op}
+use Rattle.lowering_model.specs.Trees.{Values, Entries, Parts, parts_of, property, type_of}
 use Rattle.lowering_model.specs.Rows.{Operand, Source}
 use Rattle.lowering_model.specs.Targets.{Legal, demanded, Partial}
 use Rattle.lowering_model.specs.Casts.{change_at, change_of, give, given, with_operand, take_result, taken}

@@ -7,7 +7,8 @@ use Rattle.tree_model.specs.declared.op_tree.BlockTree.{BlockTree, roll-BlockTre
 use Rattle.tree_model.specs.declared.op_tree.RegionTree.{RegionTree, roll-RegionTree, fold-roll-RegionTree}
 use Rattle.tree_model.specs.declared.op_tree.BlockTree.TheFolds.{fold-OpTree, fold-BlockTree, fold-RegionTree}
 use Rattle.tree_model.specs.declared.op_tree.FuncTree.{FuncTree}
-use Rattle.lowering_model.specs.Trees.{Values, Entries, Parts, Seen, see_block, see_op, see_region, ops_seen, trees_seen, name_of, operations, plain_op, values_in, values_of_block, values_of_op, values_of_region}
+use Rattle.tree_model.specs.Makers.{plain_op}
+use Rattle.lowering_model.specs.Trees.{Values, Entries, Parts, Seen, see_block, see_op, see_region, ops_seen, trees_seen, name_of, operations, values_in, values_of_block, values_of_op, values_of_region}
 use Rattle.lowering_model.specs.Targets.{Partial, demanded}
 use Rattle.lowering_model.specs.Derivation.{chosen}
 use Rattle.lowering_model.specs.Conversion.{Making, Unlegalised, conversion, each, first_or, first_unlegalised, is_legalised, leaves_or, made_op, make_block, make_op, make_region, ops_and_values, remade, stands_for, unless}

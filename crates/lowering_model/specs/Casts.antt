@@ -3,7 +3,8 @@ use Rattle.std.specs.Prelude.{ℕ, List, [], ◌∷◌, ◌++◌, Option, Some, 
 use Rattle.tree_model.specs.declared.type_tree.TypeTree.{TypeTree}
 use Rattle.tree_model.specs.declared.op_tree.OpTree.{OpTree}
 use Rattle.lowering_model.specs.Types.{new_type}
-use Rattle.lowering_model.specs.Trees.{Values, plain_op, above, type_of}
+use Rattle.tree_model.specs.Makers.{plain_op}
+use Rattle.lowering_model.specs.Trees.{Values, above, type_of}
 
 -- a cast that gives the value from the one with this number
 abbrev pub cast : ℕ → ℕ × TypeTree → OpTree

@@ -7,7 +7,8 @@ use Rattle.tree_model.specs.declared.op_tree.OpTree.{OpTree, roll-OpTree}
 use Rattle.tree_model.specs.declared.op_tree.BlockTree.{roll-BlockTree}
 use Rattle.tree_model.specs.declared.op_tree.RegionTree.{roll-RegionTree}
 use Rattle.tree_model.specs.declared.op_tree.FuncTree.{FuncTree}
-use Rattle.lowering_model.specs.Trees.{Values, Entries, plain_op}
+use Rattle.tree_model.specs.Makers.{plain_op}
+use Rattle.lowering_model.specs.Trees.{Values, Entries}
 
 abbrev pub i32 : TypeTree
 i32 = type.Int 32

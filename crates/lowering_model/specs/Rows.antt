@@ -4,7 +4,8 @@ use Rattle.std.specs.Str.{bytes_eq}
 use Rattle.tree_model.specs.declared.type_tree.TypeTree.{TypeTree}
 use Rattle.tree_model.specs.declared.op_tree.OpTree.{OpTree}
 use Rattle.lowering_model.specs.Types.{converted_values}
-use Rattle.lowering_model.specs.Trees.{Values, Entries, Parts, plain_op, above}
+use Rattle.tree_model.specs.Makers.{plain_op}
+use Rattle.lowering_model.specs.Trees.{Values, Entries, Parts, above}
 
 -- where an operand of a product comes from: an operand of the replaced operation or the value of an earlier step, each by its place
 pub data Source : Type 0 where

@@ -17,11 +17,6 @@ Values = List (ℕ × TypeTree)
 abbrev pub Entries : Type 0
 Entries = List (List ℕ × AttrTree)
 
--- an operation with neither attributes nor regions nor successors
-abbrev pub plain_op : List ℕ → Values → List ℕ → Entries → OpTree
-plain_op name results operands props =
-    roll-OpTree (record { name = name; results = results; operands = operands; props = props; attrs = []; regions = []; successors = [] })
-
 -- an operation as its parts
 abbrev pub Parts : Type 0
 Parts = OpTree-F BlockTree OpTree RegionTree

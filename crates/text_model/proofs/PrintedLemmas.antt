@@ -5,14 +5,13 @@ use Rattle.std.proofs.lemmas.Grind.{common_steps}
 use Rattle.tree_model.specs.declared.op_tree.BlockTree.{BlockTree, out-BlockTree, fold_out-BlockTree, the_lemmas}
 use Rattle.tree_model.specs.declared.op_tree.OpTree.{OpTree, out-OpTree, fold_out-OpTree}
 use Rattle.tree_model.specs.declared.op_tree.RegionTree.{RegionTree, out-RegionTree, fold_out-RegionTree}
-use Rattle.text_model.specs.PrintedPlaces.{Place, BlockPlaces, block_places, op_places, region_places, places_from, places_of_op, places_of_block, places_of_region}
-use Rattle.text_model.specs.PrintedNames.{Names, with_place, with_places}
+use Rattle.text_model.specs.PrintedPlaces.{Place, result_places, successor_at, BlockPlaces, block_places, op_places, region_places, places_from, places_of_op, places_of_block, places_of_region}
+use Rattle.text_model.specs.PrintedNames.{Names}
 use Rattle.text_model.specs.PrintedOps.{BlockParts, block_step, op_step, region_step, op_text, region_text, block_parts, head_text, tail_text, regions_text, blocks_text}
 
--- the names along two parts, one after the other
-pub with_places-append : (n : Names) (xs ys : List Place) → with_places n (xs ++ ys) ≡ with_places (with_places n xs) ys
-with_places-append n [] ys = refl
-with_places-append n (x ∷ xs) ys = with_places-append (with_place n x) xs ys
+-- the places of an operation
+pub places_of_op_at : (o : OpTree) → places_of_op o ≡ result_places (out-OpTree o).results ++ map successor_at (out-OpTree o).successors ++ flat_map (λ ps. ps) (map places_of_region (out-OpTree o).regions)
+places_of_op_at o = fold_out-OpTree BlockPlaces (List Place) (List Place) block_places op_places region_places o
 
 -- the places of a region
 pub places_of_region_at : (r : RegionTree) → places_of_region r ≡ places_from 0 (map places_of_block (out-RegionTree r).blocks)
@@ -42,7 +41,7 @@ pub body_at : (n : Names) (b : BlockTree) (indent : List ℕ) → (block_parts n
 body_at n b indent = ap (λ p. p.body indent) (fold_out-BlockTree BlockParts (List ℕ → List ℕ) (List ℕ → List ℕ) block_step (op_step n) (region_step n) b)
 
 -- what a walk that names needs
-pub ruleset place_laws = (common_steps, the_lemmas, with_places-append, places_of_region_at, places_of_block-label, places_of_block-arguments, places_of_block-inner)
+pub ruleset place_laws = (common_steps, the_lemmas, places_of_op_at, places_of_region_at, places_of_block-label, places_of_block-arguments, places_of_block-inner)
 
 -- what a walk that prints needs
 pub ruleset text_laws = (common_steps, the_lemmas, op_text_at, region_text_at, body_at)

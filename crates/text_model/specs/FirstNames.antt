@@ -12,6 +12,7 @@ use Rattle.tree_model.specs.declared.op_tree.BlockTree.{BlockTree, roll-BlockTre
 use Rattle.tree_model.specs.declared.op_tree.RegionTree.{RegionTree, roll-RegionTree}
 use Rattle.tree_model.specs.declared.op_tree.FuncTree.{FuncTree}
 use Rattle.tree_model.specs.declared.op_tree.ModuleTree.{ModuleTree}
+use Rattle.tree_model.specs.Makers.{plain_op}
 use Rattle.text_model.specs.declared.first.Word.{Word}
 use Rattle.text_model.specs.declared.first.Maker.{Maker}
 use Rattle.text_model.specs.declared.first.Maker.TheVariants.{Constant, Sum}
@@ -97,11 +98,6 @@ i32 = type.Int 32
 -- the number of a value that is in scope
 abbrev pub number_of : List ℕ → List Word → Word → ℕ
 number_of text scope w = unwrap_or (place_of text scope w) 0
-
--- an operation of one name, with its results, operands and properties alone
-abbrev pub plain_op : List ℕ → List (ℕ × TypeTree) → List ℕ → List (List ℕ × AttrTree) → OpTree
-plain_op name results operands props =
-    roll-OpTree (record { name = name; results = results; operands = operands; props = props; attrs = []; regions = []; successors = [] })
 
 -- the flags of an addition, where they are written
 abbrev pub flags_of : Bool → List (List ℕ × AttrTree)

@@ -2,7 +2,7 @@
 use Rattle.std.specs.Prelude.{◌≡◌, ℕ, ◌-◌, ◌==◌, Bool, true, false, ◌&&◌, not, List, [], ◌∷◌, ◌++◌, length, take, drop, map, codes, if◌then◌else◌}
 use Rattle.std.specs.List.{list_all}
 use Rattle.std.specs.Str.{bytes_eq}
-use Rattle.mlir_lex.specs.Bytes.{is_digit, starts_bare, is_bare_byte}
+use Rattle.mlir_lex.specs.Bytes.{is_digit, is_bare}
 use Rattle.mlir_lex.specs.declared.TokenKind.{TokenKind}
 use Rattle.mlir_lex.specs.declared.TokenKind.TheVariants as token
 use Rattle.mlir_lex.specs.declared.Token.{Token}
@@ -13,11 +13,6 @@ use Rattle.text_model.specs.declared.first.Word.{Word}
 -- the bytes from one place up to another
 abbrev pub between : List ℕ → ℕ → ℕ → List ℕ
 between text start end = take (end - start) (drop start text)
-
--- a bare identifier
-unfoldable pub is_bare : List ℕ → Bool
-is_bare [] = false
-is_bare (b ∷ bs) = starts_bare b && list_all is_bare_byte bs
 
 -- what stands between the quotes of a string literal
 abbrev pub inside : List ℕ → List ℕ

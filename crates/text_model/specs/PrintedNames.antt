@@ -1,95 +1,98 @@
--- The names of a function's values and blocks: counts along its places.
-use Rattle.std.specs.Prelude.{ℕ, zero, suc, ◌+◌, ◌==◌, Bool, false, ◌||◌, List, [], ◌∷◌, Option, Some, None, is_some, if◌then◌else◌}
+-- The names of a function's values and blocks: counts over its places.
+use Rattle.std.specs.Prelude.{ℕ, ◌==◌, Bool, true, false, List, [], ◌∷◌, Option, Some, None, option_map, option_and_then, if◌then◌else◌, flat_map, find, position, count_by}
+use Rattle.std.specs.List.{list_any}
 use Rattle.tree_model.specs.declared.type_tree.TypeTree.{TypeTree}
 use Rattle.tree_model.specs.declared.op_tree.OpTree.{OpTree}
 use Rattle.text_model.specs.declared.value_name.ValueName.{ValueName}
 use Rattle.text_model.specs.declared.value_name.ValueName.TheVariants.{Argument, Single, Part}
-use Rattle.text_model.specs.declared.value_name.Named.{Named}
-use Rattle.text_model.specs.PrintedPlaces.{Place, results_at, successors_at, block_at, places_of_op}
+use Rattle.text_model.specs.PrintedPlaces.{Place, argument_at, single_at, group_at, successor_at, block_at, places_of_op}
 
--- what is named up to some place: the next number of each of the two counts, the names of values,
--- the positions of blocks by their labels, and the labels that an operation names as successors
+-- the values that a place defines
+abbrev pub values_at : Place → List (ℕ × TypeTree)
+values_at (argument_at v) = v ∷ []
+values_at (single_at v) = v ∷ []
+values_at (group_at vs) = vs
+values_at (successor_at label) = []
+values_at (block_at n label) = []
+
+-- whether a place defines the value
+abbrev pub defines : ℕ → Place → Bool
+defines value p = list_any (λ v. v.0 == value) (values_at p)
+
+-- the places before the first one that defines the value
+abbrev pub places_before : ℕ → List Place → List Place
+places_before value [] = []
+places_before value (p ∷ ps) = if defines value p then [] else p ∷ places_before value ps
+
+-- whether a place takes one of the numbers of `%arg0`, `%arg1`, ..
+abbrev pub is_argument : Place → Bool
+is_argument (argument_at v) = true
+is_argument (single_at v) = false
+is_argument (group_at vs) = false
+is_argument (successor_at label) = false
+is_argument (block_at n label) = false
+
+-- whether a place takes one of the numbers of `%0`, `%1`, ..
+abbrev pub is_other : Place → Bool
+is_other (argument_at v) = false
+is_other (single_at v) = true
+is_other (group_at vs) = true
+is_other (successor_at label) = false
+is_other (block_at n label) = false
+
+-- the name of a value that a place defines: its number is how many places of its kind stand before
+abbrev pub name_at : ℕ → List Place → Place → Option ValueName
+name_at value before (argument_at v) = Some (Argument (count_by is_argument before))
+name_at value before (single_at v) = Some (Single (count_by is_other before))
+name_at value before (group_at vs) = option_map (Part (count_by is_other before)) (position (λ v. v.0 == value) vs)
+name_at value before (successor_at label) = None
+name_at value before (block_at n label) = None
+
+-- the name of a value, by the first place that defines it
+abbrev pub value_name : List Place → ℕ → Option ValueName
+value_name places value = option_and_then (name_at value (places_before value places)) (find (defines value) places)
+
+-- the type of a value, where it is first defined
+abbrev pub defined_type : List Place → ℕ → Option TypeTree
+defined_type places value = option_map (λ v. v.1) (find (λ v. v.0 == value) (flat_map values_at places))
+
+-- the block that stands at a place, with its label and its position
+abbrev pub blocks_at : Place → List (ℕ × ℕ)
+blocks_at (block_at n label) = (label, n) ∷ []
+blocks_at (argument_at v) = []
+blocks_at (single_at v) = []
+blocks_at (group_at vs) = []
+blocks_at (successor_at label) = []
+
+-- the position of the block with a label among the blocks of its region
+abbrev pub label_position : List Place → ℕ → Option ℕ
+label_position places label = option_map (λ b. b.1) (find (λ b. b.0 == label) (flat_map blocks_at places))
+
+-- whether a place names the label as a successor
+abbrev pub names_label : ℕ → Place → Bool
+names_label label (successor_at other) = other == label
+names_label label (argument_at v) = false
+names_label label (single_at v) = false
+names_label label (group_at vs) = false
+names_label label (block_at n other) = false
+
+-- what the text of a function looks up: the name and the type of a value, the position of the block
+-- with a label, and whether an operation names a label as a successor
 pub record Names : Type 0 where
-  pub next_argument : ℕ
-  pub next_other : ℕ
-  pub value : ℕ → Option Named
+  pub name : ℕ → Option ValueName
+  pub type_of : ℕ → Option TypeTree
   pub position : ℕ → Option ℕ
   pub is_target : ℕ → Bool
 
--- nothing is named yet
-abbrev pub no_names : Names
-no_names = record { next_argument = 0; next_other = 0; value = λ v. None; position = λ l. None; is_target = λ l. false }
-
--- a key has what it got first
-abbrev pub with_first : {A : Type 0} → (ℕ → Option A) → ℕ → A → ℕ → Option A
-with_first f key a q = if is_some (f key) then f q else (if key == q then Some a else f q)
-
--- a value gets a name
-abbrev pub with_name : Names → (ℕ × TypeTree) → ValueName → Names
-with_name n v name = record n { value = with_first n.value v.0 (record { name = name; of = v.1 }) }
-
--- an argument of a region's first block takes the next number of the arguments
-abbrev pub with_argument : Names → (ℕ × TypeTree) → Names
-with_argument n v = let named = with_name n v (Argument n.next_argument) in record named { next_argument = named.next_argument + 1 }
-
--- another argument, or the only result of an operation, takes the next other number
-abbrev pub with_single : Names → (ℕ × TypeTree) → Names
-with_single n v = let named = with_name n v (Single n.next_other) in record named { next_other = named.next_other + 1 }
-
--- the arguments of a region's first block
-abbrev pub with_arguments : Names → List (ℕ × TypeTree) → Names
-with_arguments n [] = n
-with_arguments n (v ∷ vs) = with_arguments (with_argument n v) vs
-
--- the arguments of another block
-abbrev pub with_singles : Names → List (ℕ × TypeTree) → Names
-with_singles n [] = n
-with_singles n (v ∷ vs) = with_singles (with_single n v) vs
-
--- several results from the k-th on, which are parts of one number
-abbrev pub with_parts : Names → ℕ → List (ℕ × TypeTree) → Names
-with_parts n k [] = n
-with_parts n k (v ∷ vs) = with_parts (with_name n v (Part n.next_other k)) (k + 1) vs
-
--- several results take one number
-abbrev pub with_group : Names → List (ℕ × TypeTree) → Names
-with_group n vs = let named = with_parts n 0 vs in record named { next_other = named.next_other + 1 }
-
--- the results of an operation: none, one or several
-abbrev pub with_results : Names → List (ℕ × TypeTree) → Names
-with_results n [] = n
-with_results n (v ∷ []) = with_single n v
-with_results n (v ∷ w ∷ vs) = with_group n (v ∷ w ∷ vs)
-
--- an operation names a label as a successor
-abbrev pub with_target : Names → ℕ → Names
-with_target n label = record n { is_target = λ q. (label == q) || n.is_target q }
-
--- the successors of an operation
-abbrev pub with_targets : Names → List ℕ → Names
-with_targets n [] = n
-with_targets n (l ∷ ls) = with_targets (with_target n l) ls
-
--- a block with a label stands at a position
-abbrev pub with_label : Names → ℕ → ℕ → Names
-with_label n k label = record n { position = with_first n.position label k }
-
--- the arguments of the block at a position
-abbrev pub with_block_arguments : Names → ℕ → List (ℕ × TypeTree) → Names
-with_block_arguments n zero vs = with_arguments n vs
-with_block_arguments n (suc k) vs = with_singles n vs
-
--- a place
-abbrev pub with_place : Names → Place → Names
-with_place n (results_at vs) = with_results n vs
-with_place n (successors_at labels) = with_targets n labels
-with_place n (block_at k label vs) = with_block_arguments (with_label n k label) k vs
-
--- places in order
-abbrev pub with_places : Names → List Place → Names
-with_places n [] = n
-with_places n (p ∷ ps) = with_places (with_place n p) ps
+-- the names by places
+abbrev pub names_along : List Place → Names
+names_along places = record {
+  name = value_name places;
+  type_of = defined_type places;
+  position = label_position places;
+  is_target = λ label. list_any (names_label label) places;
+}
 
 -- the names of a function, by the operation that defines it
 abbrev pub names_of : OpTree → Names
-names_of op = with_places no_names (places_of_op op)
+names_of op = names_along (places_of_op op)

@@ -1,9 +1,9 @@
 -- The printed text of an operation, by the names of the function in which it stands.
 use Rattle.std.specs.Prelude.{ℕ, ◌+◌, Bool, true, false, ◌||◌, not, List, [], ◌∷◌, ◌++◌, map, flat_map, length, Option, Some, None, if◌then◌else◌, codes, decimal}
-use Rattle.tree_model.specs.Joined.{joined}
-use Rattle.tree_model.specs.NameText.{string_text}
-use Rattle.tree_model.specs.TypeText.{Printed, printed, plain_type, type_text, signature_text}
-use Rattle.tree_model.specs.AttrText.{dict_text}
+use Rattle.tree_text.specs.Joined.{joined}
+use Rattle.tree_text.specs.NameText.{string_text}
+use Rattle.tree_text.specs.TypeText.{Printed, printed, plain_type, type_text, signature_text}
+use Rattle.tree_text.specs.AttrText.{dict_text}
 use Rattle.tree_model.specs.declared.type_tree.TypeTree.{TypeTree}
 use Rattle.tree_model.specs.declared.attr_tree.AttrTree.{AttrTree}
 use Rattle.tree_model.specs.declared.op_tree.OpTree.{OpTree, fold-OpTree}
@@ -12,49 +12,42 @@ use Rattle.tree_model.specs.declared.op_tree.RegionTree.{RegionTree, fold-Region
 use Rattle.tree_model.specs.declared.op_tree.BlockTree.TheOpen.{OpTree-F, BlockTree-F, RegionTree-F}
 use Rattle.text_model.specs.declared.value_name.ValueName.{ValueName}
 use Rattle.text_model.specs.declared.value_name.ValueName.TheVariants.{Argument, Single, Part}
-use Rattle.text_model.specs.declared.value_name.Named.{Named}
 use Rattle.text_model.specs.PrintedNames.{Names}
 
--- a value's name as it is written
-abbrev pub name_of : ValueName → List ℕ
-name_of (Argument n) = codes "%arg" ++ decimal n
-name_of (Single n) = codes "%" ++ decimal n
-name_of (Part n k) = codes "%" ++ decimal n ++ codes "#" ++ decimal k
+-- the number of a value as it is written, which the results of a group share
+abbrev pub found_number : Option ValueName → List ℕ
+found_number (Some (Argument n)) = codes "%arg" ++ decimal n
+found_number (Some (Single n)) = codes "%" ++ decimal n
+found_number (Some (Part n k)) = codes "%" ++ decimal n
+-- the function defines no such value
+found_number None = codes "%?"
 
--- the name of a value: `%?` where the function defines no such value
-abbrev pub found_name : Option Named → List ℕ
+-- a value's name as it is written, with its place in its group
+abbrev pub found_name : Option ValueName → List ℕ
+found_name (Some (Argument n)) = codes "%arg" ++ decimal n
+found_name (Some (Single n)) = codes "%" ++ decimal n
+found_name (Some (Part n k)) = codes "%" ++ decimal n ++ codes "#" ++ decimal k
 found_name None = codes "%?"
-found_name (Some v) = name_of v.name
 
 -- the type of a value: `?` where the function defines no such value
-abbrev pub found_type : Option Named → Printed
+abbrev pub found_type : Option TypeTree → Printed
 found_type None = plain_type (codes "?")
-found_type (Some v) = printed v.of
+found_type (Some t) = printed t
 
 -- the label of a block: `^bb?` where the function has no such block
 abbrev pub found_label : Option ℕ → List ℕ
 found_label None = codes "^bb?"
 found_label (Some k) = codes "^bb" ++ decimal k
 
--- the number that several results share
-abbrev pub group_of : ValueName → List ℕ
-group_of (Argument n) = codes "%arg" ++ decimal n
-group_of (Single n) = codes "%" ++ decimal n
-group_of (Part n k) = codes "%" ++ decimal n
-
-abbrev pub found_group : Option Named → List ℕ
-found_group None = codes "%?"
-found_group (Some v) = group_of v.name
-
 -- what stands before an operation's name: nothing, `%3 = ` or `%3:2 = `
 abbrev pub results_lead : Names → List (ℕ × TypeTree) → List ℕ
 results_lead n [] = []
-results_lead n (v ∷ []) = found_name (n.value v.0) ++ codes " = "
-results_lead n (v ∷ w ∷ vs) = found_group (n.value v.0) ++ codes ":" ++ decimal (length (v ∷ w ∷ vs)) ++ codes " = "
+results_lead n (v ∷ []) = found_name (n.name v.0) ++ codes " = "
+results_lead n (v ∷ w ∷ vs) = found_number (n.name v.0) ++ codes ":" ++ decimal (length (v ∷ w ∷ vs)) ++ codes " = "
 
 -- the operands in parentheses
 abbrev pub operands_text : Names → List ℕ → List ℕ
-operands_text n operands = codes "(" ++ joined (codes ", ") (map (λ v. found_name (n.value v)) operands) ++ codes ")"
+operands_text n operands = codes "(" ++ joined (codes ", ") (map (λ v. found_name (n.name v)) operands) ++ codes ")"
 
 -- the successors in brackets, or nothing
 abbrev pub successors_text : Names → List ℕ → List ℕ
@@ -78,11 +71,11 @@ regions_text (r ∷ rs) = codes " (" ++ joined (codes ", ") (r ∷ rs) ++ codes 
 
 -- the function type of an operation: its operands' types and its results'
 abbrev pub op_signature : Names → List ℕ → List (ℕ × TypeTree) → List ℕ
-op_signature n operands results = signature_text (map (λ v. found_type (n.value v)) operands) (map (λ r. printed r.1) results)
+op_signature n operands results = signature_text (map (λ v. found_type (n.type_of v)) operands) (map (λ r. printed r.1) results)
 
 -- an argument of a block with its type
 abbrev pub argument_text : Names → (ℕ × TypeTree) → List ℕ
-argument_text n v = found_name (n.value v.0) ++ codes ": " ++ type_text v.1
+argument_text n v = found_name (n.name v.0) ++ codes ": " ++ type_text v.1
 
 -- the arguments of a block in parentheses, or nothing
 abbrev pub arguments_text : Names → List (ℕ × TypeTree) → List ℕ

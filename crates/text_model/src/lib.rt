@@ -7,5 +7,5 @@ pub mod first;
 mod printed;
 mod value_name;
 
-pub use printed::law_empty_module;
-pub use value_name::{Named, ValueName};
+pub use printed::{law_empty_module, law_lines_of_a_region, law_names_of_a_function};
+pub use value_name::ValueName;

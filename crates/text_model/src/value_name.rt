@@ -1,4 +1,4 @@
-use tree_model::TypeTree;
+//! The name of a value in a printed text.
 
 /// The name of a value in a printed function.
 #[derive(Clone, Copy, Debug)]
@@ -9,11 +9,4 @@ pub enum ValueName {
     Single(u64),
     /// One of several results, which share a number: `%3#1`.
     Part(u64, u64),
-}
-
-/// A value's name with its type.
-#[derive(Debug, Drop)]
-pub struct Named {
-    pub name: ValueName,
-    pub of: TypeTree,
 }

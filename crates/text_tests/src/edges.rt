@@ -1,8 +1,7 @@
-//! Sources, sinks and words.
+//! Sources and sinks.
 
 use edge_kit::{
     Failed, MemSink, MemSource, Sink, SinkFault, Source, StdSink, StdSource, SureSink, SureSource,
-    Words,
 };
 use std::test::Fail;
 
@@ -49,14 +48,6 @@ fn a_reader_and_a_writer_of_std_are_edges(rt: HostRuntime) -> Result<(), Fail> {
     assert_eq!(rt; source.read(&mut into), Ok(2));
     assert_eq!(rt; into.as_slice(), b"ab".as_slice());
     let mut sink = StdSink::new(Vec::new(rt.alloc()));
-    assert_eq!(rt; sink.write(b""), Ok(0));
     assert_eq!(rt; sink.write(b"abc"), Ok(3));
-    Ok(())
-}
-
-#[test]
-fn words_take_a_word(rt: HostRuntime) -> Result<(), Fail> {
-    let mut words = Words::new(rt.alloc());
-    words.push(rt.alloc(), "--pass-pipeline")?;
     Ok(())
 }

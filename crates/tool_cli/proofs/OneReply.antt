@@ -1,12 +1,12 @@
 -- At most one reply fits.
-use Rattle.std.proofs.Common.{◌≡◌, ℕ, List, [], ◌∷◌, Option, Some, None, Result, Ok, Err, refl, sym, ap, ◌∙◌, subst, arith}
+use Rattle.std.proofs.Common.{◌≡◌, ℕ, List, [], ◌∷◌, Option, Some, None, Result, Ok, refl, sym, ap, ◌∙◌, subst, arith}
 use Rattle.tree_model.specs.declared.op_tree.FuncTree.{FuncTree}
 use Rattle.tree_model.specs.declared.op_tree.ModuleTree.{ModuleTree}
 use Rattle.lowering_model.specs.ArithPass.{arith_converted}
 use Rattle.lowering_model.specs.Conversion.{Unlegalised}
 use Rattle.text_model.specs.FirstText.{IsFirstText}
 use Rattle.text_model.proofs.OneTree.{one_tree}
-use Rattle.conv_driver.specs.Modules.{EachConverts, IsConverted}
+use Rattle.conv_driver.specs.Modules.{EachConverts}
 use Rattle.tool_cli.specs.declared.command.Command.{Command}
 use Rattle.tool_cli.specs.declared.command.Command.TheVariants.{Print, ConvertArith}
 use Rattle.tool_cli.specs.Commands.{command_of}

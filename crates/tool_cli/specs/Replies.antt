@@ -1,5 +1,5 @@
 -- The table of replies: what the program answers to words and an input.
-use Rattle.std.specs.Prelude.{◌≡◌, ℕ, ◌^◌, ◌<◌, ◌≤◌, List, [], ◌++◌, length, codes, Option, Some, None}
+use Rattle.std.specs.Prelude.{◌≡◌, ℕ, ◌^◌, ◌<◌, ◌≤◌, List, [], ◌++◌, length, codes, Some, None}
 use Rattle.tool_cli.specs.declared.status.Status.{Status}
 use Rattle.tool_cli.specs.declared.status.Status.TheVariants.{Ok, Usage, Refused, Limit}
 use Rattle.tool_cli.specs.declared.command.Command.{Command}

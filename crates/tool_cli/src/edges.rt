@@ -21,6 +21,8 @@ pub fn read_input<S: Source>(alloc: Global, input: &mut S) -> Result<Option<Vec<
     ensures bounded { IfOk result (λ o. IfSome o (λ text. length text.items ≤ MAX_INPUT)) }
     ensures long { IfOk result (λ o. IfNone o ((bytes : List ℕ) × IsInput (S.left input.old) bytes × (MAX_INPUT < length bytes))) }
     ensures cause { IsErrOf result Stop.ReadFault → Rose (S.faults input.old) (S.faults input.new) }
+    ensures quiet { OnOk result (S.faults input.new ≡ S.faults input.old) }
+    ensures wanting { IsErrOf result Stop.NoMemory → S.faults input.new ≡ S.faults input.old }
 {
     let mut text = Vec::new(alloc);
     let mut buffer = vec![in alloc; 0; CHUNK]?;
@@ -45,6 +47,8 @@ pub fn write_all<K: Sink>(sink: &mut K, bytes: &[u8]) -> Result<(), SinkFault>
     ensures ok { OnOk result (Appends (K.held sink.old) (K.held sink.new) bytes.now) }
     ensures err { OnErr result (TakesFront (K.held sink.old) (K.held sink.new) bytes.now) }
     ensures cause { IsErrOf result SinkFault.Failed → Rose (K.faults sink.old) (K.faults sink.new) }
+    ensures quiet { OnOk result (K.faults sink.new ≡ K.faults sink.old) }
+    ensures wanting { IsErrOf result SinkFault.NoMemory → K.faults sink.new ≡ K.faults sink.old }
 {
     let mut at = 0;
     'writes: while at < bytes.len() {

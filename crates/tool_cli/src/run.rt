@@ -1,11 +1,11 @@
 //! The top call and its laws.
 
-ghost use Rattle.std.specs.Prelude.{◌≡◌, ◌⊎◌, ℕ, ◌^◌, ◌≤◌, List, length, ⊤, Some, None, IfOk, IsErrOf, OnOk, OnErr};
+ghost use Rattle.std.specs.Prelude.{◌≡◌, ◌⊎◌, ℕ, ◌^◌, ◌≤◌, List, [], length, ⊤, Some, None, IfOk, IsErrOf, OnOk, OnErr};
 ghost use Rattle.std.specs.Io.KnownBytes.{IsAtEnd, Keeps};
 ghost use Rattle.edge_kit.specs.Edges.{Rose};
 ghost use Rattle.tool_cli.specs.Replies.{Reply, Out};
 ghost use Rattle.tool_cli.specs.Commands.{command_of};
-ghost use Rattle.tool_cli.specs.Runs.{IsReply, RepliesTo, TakesAll, StopsEarly, Spares, OneReply};
+ghost use Rattle.tool_cli.specs.Runs.{AreCommand, IsReply, RepliesTo, TakesAll, StopsEarly, RoseAlone, Spares, OneReply};
 
 use crate::command::{Command, command_of};
 use crate::edges::{read_input, write_all};
@@ -45,12 +45,17 @@ pub fn run_single<S: Source, K: Sink, E: Sink>(
     ensures replied { IsReply result → (reply : Reply) × RepliesTo words.now (S.left input.old) reply × (result ≡ reply.status)
         × TakesAll (K.held out.old) (K.held out.new) (E.held diag.old) (E.held diag.new) reply }
     ensures ended { (result ≡ Status.Ok) ⊎ (result ≡ Status.Refused) → IsAtEnd (S.left input.new) }
-    ensures read_fault { result ≡ Status.ReadFault → Rose (S.faults input.old) (S.faults input.new)
-        × Spares (K.held out.old) (K.held out.new) (E.held diag.old) (E.held diag.new) }
+    ensures unread { (result ≡ Status.Usage) ⊎ (command_of words.now ≡ None) → input.new ≡ input.old }
+    ensures read_fault { result ≡ Status.ReadFault → AreCommand words.now × Rose (S.faults input.old) (S.faults input.new)
+        × Spares out.old out.new diag.old diag.new }
     ensures write_fault { result ≡ Status.WriteFault → (reply : Reply) × RepliesTo words.now (S.left input.old) reply
-        × StopsEarly (Rose (K.faults out.old) (K.faults out.new)) (Rose (E.faults diag.old) (E.faults diag.new))
+        × StopsEarly (RoseAlone (K.faults out.old) (K.faults out.new) (E.faults diag.old) (E.faults diag.new))
+        (RoseAlone (E.faults diag.old) (E.faults diag.new) (K.faults out.old) (K.faults out.new))
         (K.held out.old) (K.held out.new) (E.held diag.old) (E.held diag.new) reply }
-    ensures no_memory { result ≡ Status.NoMemory → Spares (K.held out.old) (K.held out.new) (E.held diag.old) (E.held diag.new)
+    ensures quiet_input { (result ≡ Status.ReadFault → ⊥) → S.faults input.new ≡ S.faults input.old }
+    ensures quiet_outputs { (result ≡ Status.WriteFault → ⊥)
+        → (K.faults out.new ≡ K.faults out.old) × (E.faults diag.new ≡ E.faults diag.old) }
+    ensures no_memory { result ≡ Status.NoMemory → Spares out.old out.new diag.old diag.new
         ⊎ ((reply : Reply) × RepliesTo words.now (S.left input.old) reply
         × StopsEarly ⊤ ⊤ (K.held out.old) (K.held out.new) (E.held diag.old) (E.held diag.new) reply) }
 {
@@ -78,6 +83,11 @@ pub fn run_sure(
     ensures writes { result ≡ Status.WriteFault → ⊥ }
     ensures replied { IsReply result → (reply : Reply) × RepliesTo words.now (Some input.old) reply × (result ≡ reply.status)
         × TakesAll (Some out.old) (Some out.new) (Some diag.old) (Some diag.new) reply }
+    ensures ended { (result ≡ Status.Ok) ⊎ (result ≡ Status.Refused) → input.new ≡ [] }
+    ensures unread { (result ≡ Status.Usage) ⊎ (command_of words.now ≡ None) → input.new ≡ input.old }
+    ensures no_memory { result ≡ Status.NoMemory → Spares out.old out.new diag.old diag.new
+        ⊎ ((reply : Reply) × RepliesTo words.now (Some input.old) reply
+        × StopsEarly ⊤ ⊤ (Some out.old) (Some out.new) (Some diag.old) (Some diag.new) reply) }
 {
     run_single(alloc, words, input, out, diag)
 }
@@ -92,6 +102,10 @@ fn reply_to<S: Source>(alloc: Global, words: &Words, input: &mut S) -> Result<Pr
     ensures reply { IfOk result (λ p. RepliesTo words.now (S.left input.old) p) }
     ensures ended { IfOk result (λ p. (p.status ≡ Status.Ok) ⊎ (p.status ≡ Status.Refused) → IsAtEnd (S.left input.new)) }
     ensures cause { IsErrOf result Stop.ReadFault → Rose (S.faults input.old) (S.faults input.new) }
+    ensures command { IsErrOf result Stop.ReadFault → AreCommand words.now }
+    ensures unread { command_of words.now ≡ None → input.new ≡ input.old }
+    ensures quiet { OnOk result (S.faults input.new ≡ S.faults input.old) }
+    ensures wanting { IsErrOf result Stop.NoMemory → S.faults input.new ≡ S.faults input.old }
 {
     let Some(command) = command_of(words) else {
         return Ok(refuse(
@@ -124,8 +138,12 @@ fn reply_to_text(alloc: Global, command: Command, text: &[u8]) -> Result<Prepare
 fn deliver<K: Sink, E: Sink>(out: &mut K, diag: &mut E, reply: &Prepared) -> Result<(), SinkFault>
     ensures ok { OnOk result (TakesAll (K.held out.old) (K.held out.new) (E.held diag.old) (E.held diag.new) reply.now) }
     ensures failed { IsErrOf result SinkFault.Failed
-        → StopsEarly (Rose (K.faults out.old) (K.faults out.new)) (Rose (E.faults diag.old) (E.faults diag.new))
+        → StopsEarly (RoseAlone (K.faults out.old) (K.faults out.new) (E.faults diag.old) (E.faults diag.new))
+        (RoseAlone (E.faults diag.old) (E.faults diag.new) (K.faults out.old) (K.faults out.new))
         (K.held out.old) (K.held out.new) (E.held diag.old) (E.held diag.new) reply.now }
+    ensures quiet { OnOk result ((K.faults out.new ≡ K.faults out.old) × (E.faults diag.new ≡ E.faults diag.old)) }
+    ensures wanting { IsErrOf result SinkFault.NoMemory
+        → (K.faults out.new ≡ K.faults out.old) × (E.faults diag.new ≡ E.faults diag.old) }
     ensures stopped { OnErr result (StopsEarly ⊤ ⊤ (K.held out.old) (K.held out.new) (E.held diag.old) (E.held diag.new) reply.now) }
 {
     write_all(out, reply.out.as_slice())?;

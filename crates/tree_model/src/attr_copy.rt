@@ -1,11 +1,15 @@
+//! Copies of attributes.
+
 ghost use Rattle.std.specs.Prelude.{◌≡◌, IfOk};
 
 use crate::attr_tree::{AttrList, AttrTree, DictTree, NameList};
-use crate::bytes::{Name, NoMemory};
+use crate::bytes::NoMemory;
+use crate::name::Name;
 use crate::type_copy::copy_type;
 use sqlite_items::Items;
 use std::alloc::Global;
 
+/// A copy of an attribute.
 #[cycle(copy_attr)]
 pub fn copy_attr(alloc: Global, a: &AttrTree) -> Result<AttrTree, NoMemory>
     ensures { IfOk result (λ b. b ≡ a.now) }
@@ -31,7 +35,7 @@ pub fn copy_attr(alloc: Global, a: &AttrTree) -> Result<AttrTree, NoMemory>
 }
 
 #[cycle(copy_attr)]
-pub fn copy_attrs(alloc: Global, attrs: &[AttrTree]) -> Result<AttrList, NoMemory>
+fn copy_attrs(alloc: Global, attrs: &[AttrTree]) -> Result<AttrList, NoMemory>
     ensures { IfOk result (λ copies. copies ≡ attrs.now) }
 {
     let mut copies = Items::new(alloc);
@@ -41,6 +45,7 @@ pub fn copy_attrs(alloc: Global, attrs: &[AttrTree]) -> Result<AttrList, NoMemor
     Ok(copies)
 }
 
+/// Copies of the entries of a dictionary, in order.
 #[cycle(copy_attr)]
 pub fn copy_dict(alloc: Global, entries: &[(Name, AttrTree)]) -> Result<DictTree, NoMemory>
     ensures { IfOk result (λ copies. copies ≡ entries.now) }
@@ -54,6 +59,7 @@ pub fn copy_dict(alloc: Global, entries: &[(Name, AttrTree)]) -> Result<DictTree
     Ok(copies)
 }
 
+/// Copies of names, in order.
 pub fn copy_names(alloc: Global, names: &[Name]) -> Result<NameList, NoMemory>
     ensures { IfOk result (λ copies. copies ≡ names.now) }
 {

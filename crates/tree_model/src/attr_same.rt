@@ -1,9 +1,12 @@
+//! Equality of attributes.
+
 ghost use Rattle.std.specs.Prelude.{◌≡◌, ◌↔◌, IsTrue};
 
 use crate::attr_tree::AttrTree;
-use crate::bytes::Name;
+use crate::name::Name;
 use crate::type_same::same_type;
 
+/// Whether two attributes are one.
 #[cycle(same_attr)]
 pub fn same_attr(a: &AttrTree, b: &AttrTree) -> bool
     ensures { IsTrue result ↔ (a.now ≡ b.now) }
@@ -11,23 +14,23 @@ pub fn same_attr(a: &AttrTree, b: &AttrTree) -> bool
     match (a, b) {
         (AttrTree::Unit, AttrTree::Unit) => true,
         (AttrTree::Int(m, s), AttrTree::Int(n, t)) => m == n && same_type(s, t),
-        (AttrTree::Str(v), AttrTree::Str(w)) => v.same(w),
+        (AttrTree::Str(v), AttrTree::Str(w)) => v == w,
         (AttrTree::List(v), AttrTree::List(w)) => same_attrs(v.as_slice(), w.as_slice()),
         (AttrTree::Dict(v), AttrTree::Dict(w)) => same_dict(v.as_slice(), w.as_slice()),
         (AttrTree::OfType(s), AttrTree::OfType(t)) => same_type(s, t),
-        (AttrTree::Symbol(v), AttrTree::Symbol(w)) => v.same(w),
+        (AttrTree::Symbol(v), AttrTree::Symbol(w)) => v == w,
         (AttrTree::Ints(m, v), AttrTree::Ints(n, w)) => {
             m == n && same_numbers(v.as_slice(), w.as_slice())
         }
         (AttrTree::Dialect(v, s), AttrTree::Dialect(w, t)) => {
-            v.same(w) && same_names(s.as_slice(), t.as_slice())
+            v == w && same_names(s.as_slice(), t.as_slice())
         }
         _ => false,
     }
 }
 
 #[cycle(same_attr)]
-pub fn same_attrs(a: &[AttrTree], b: &[AttrTree]) -> bool
+fn same_attrs(a: &[AttrTree], b: &[AttrTree]) -> bool
     ensures { IsTrue result ↔ (a.now ≡ b.now) }
 {
     if a.len() != b.len() {
@@ -41,6 +44,7 @@ pub fn same_attrs(a: &[AttrTree], b: &[AttrTree]) -> bool
     true
 }
 
+/// Whether two dictionaries have the same entries in the same order.
 #[cycle(same_attr)]
 pub fn same_dict(a: &[(Name, AttrTree)], b: &[(Name, AttrTree)]) -> bool
     ensures { IsTrue result ↔ (a.now ≡ b.now) }
@@ -49,28 +53,28 @@ pub fn same_dict(a: &[(Name, AttrTree)], b: &[(Name, AttrTree)]) -> bool
         return false;
     }
     for (v, w) in a.iter().zip(b) {
-        if !v.0.same(&w.0) || !same_attr(&v.1, &w.1) {
+        if v.0 != w.0 || !same_attr(&v.1, &w.1) {
             return false;
         }
     }
     true
 }
 
-pub fn same_names(a: &[Name], b: &[Name]) -> bool
+fn same_names(a: &[Name], b: &[Name]) -> bool
     ensures { IsTrue result ↔ (a.now ≡ b.now) }
 {
     if a.len() != b.len() {
         return false;
     }
     for (v, w) in a.iter().zip(b) {
-        if !v.same(w) {
+        if !same_name(v, w) {
             return false;
         }
     }
     true
 }
 
-pub fn same_numbers(a: &[i64], b: &[i64]) -> bool
+fn same_numbers(a: &[i64], b: &[i64]) -> bool
     ensures { IsTrue result ↔ (a.now ≡ b.now) }
 {
     if a.len() != b.len() {
@@ -82,4 +86,10 @@ pub fn same_numbers(a: &[i64], b: &[i64]) -> bool
         }
     }
     true
+}
+
+fn same_name(a: &Name, b: &Name) -> bool
+    ensures { IsTrue result ↔ (a.now ≡ b.now) }
+{
+    a == b
 }

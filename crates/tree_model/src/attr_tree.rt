@@ -1,4 +1,7 @@
-use crate::bytes::{Bytes, Name};
+//! Attributes.
+
+use crate::bytes::Bytes;
+use crate::name::Name;
 use crate::type_tree::TypeTree;
 use sqlite_items::Items;
 

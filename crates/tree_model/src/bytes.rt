@@ -1,3 +1,5 @@
+//! Texts of bytes.
+
 ghost use Rattle.std.specs.Prelude.{◌≡◌, ℕ, List, [], ◌∷◌, ◌++◌, ◌↔◌, IsTrue, IfOk, OnOk, OnErr, length, take};
 ghost use Rattle.std.specs.Fmt.{decimal, signed_decimal};
 
@@ -14,9 +16,6 @@ pub type NoMemory = AllocError;
 pub struct Bytes {
     bytes: Vec<u8>,
 }
-
-/// The name of an operation, an attribute or an entry.
-pub type Name = Bytes;
 
 impl Model for Bytes {
     ghost use Rattle.std.specs.Prelude.{ℕ, List};
@@ -64,6 +63,7 @@ impl Hash for Bytes {
 }
 
 impl Bytes {
+    /// No bytes.
     pub fn new(alloc: Global) -> Bytes
         ensures { result ≡ [] }
     {
@@ -72,6 +72,7 @@ impl Bytes {
         }
     }
 
+    /// A copy of a text.
     pub fn from_slice(alloc: Global, bytes: &[u8]) -> Result<Bytes, NoMemory>
         ensures { IfOk result (λ b. b ≡ bytes.now) }
     {
@@ -79,12 +80,14 @@ impl Bytes {
         Ok(Bytes { bytes })
     }
 
+    /// The bytes of a vector, which is not copied.
     pub fn from_vec(bytes: Vec<u8>) -> Bytes
         ensures { result ≡ bytes.items }
     {
         Bytes { bytes }
     }
 
+    /// The vector of the bytes, which are not copied.
     pub fn into_vec(self) -> Vec<u8>
         ensures { result.items ≡ self }
     {
@@ -92,47 +95,32 @@ impl Bytes {
         bytes
     }
 
+    /// A text of the same bytes.
     pub fn copy(&self, alloc: Global) -> Result<Bytes, NoMemory>
         ensures { IfOk result (λ b. b ≡ self.now) }
     {
         Bytes::from_slice(alloc, self.as_slice())
     }
 
+    /// The bytes.
     pub fn as_slice(&self) -> &[u8]
         ensures { result.now ≡ self.now }
     {
         self.bytes.as_slice()
     }
 
+    /// How many bytes there are.
     pub fn len(&self) -> usize
         ensures { result ≡ length self.now }
     {
         self.bytes.len()
     }
 
+    /// Whether there is no byte.
     pub fn is_empty(&self) -> bool
         ensures { IsTrue result ↔ (self.now ≡ []) }
     {
         self.bytes.is_empty()
-    }
-
-    pub fn same(&self, other: &Bytes) -> bool
-        ensures { IsTrue result ↔ (self.now ≡ other.now) }
-    {
-        self.as_slice() == other.as_slice()
-    }
-
-    pub fn is(&self, text: &[u8]) -> bool
-        ensures { IsTrue result ↔ (self.now ≡ text.now) }
-    {
-        self.as_slice() == text
-    }
-
-    /// Takes off what stands behind the first `len` bytes.
-    pub fn truncate(&mut self, len: usize)
-        ensures { self.new ≡ take len self.old }
-    {
-        self.bytes.truncate(len);
     }
 
     /// Appends a text.
@@ -151,6 +139,13 @@ impl Bytes {
     {
         self.bytes.push(byte)?;
         Ok(())
+    }
+
+    /// Leaves the first `len` bytes, or all where there are fewer.
+    pub fn truncate(&mut self, len: usize)
+        ensures { self.new ≡ take len self.old }
+    {
+        self.bytes.truncate(len);
     }
 
     /// Appends a number in decimal.

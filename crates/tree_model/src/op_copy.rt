@@ -1,16 +1,16 @@
+//! Copies of operations.
+
 ghost use Rattle.std.specs.Prelude.{◌≡◌, IfOk};
 
 use crate::attr_copy::copy_dict;
 use crate::bytes::NoMemory;
-use crate::op_tree::{
-    BlockList, BlockTree, FuncList, FuncTree, ModuleTree, OpList, OpTree, RegionList, RegionTree,
-    ValueList,
-};
+use crate::op_tree::{BlockList, BlockTree, OpList, OpTree, RegionList, RegionTree, ValueList};
 use crate::type_copy::copy_type;
 use crate::type_tree::TypeTree;
 use sqlite_items::Items;
 use std::alloc::Global;
 
+/// Copies of values with their types, in order.
 pub fn copy_values(alloc: Global, values: &[(u32, TypeTree)]) -> Result<ValueList, NoMemory>
     ensures { IfOk result (λ copies. copies ≡ values.now) }
 {
@@ -21,6 +21,7 @@ pub fn copy_values(alloc: Global, values: &[(u32, TypeTree)]) -> Result<ValueLis
     Ok(copies)
 }
 
+/// A copy of an operation with all that it holds.
 #[cycle(copy_op)]
 pub fn copy_op(alloc: Global, op: &OpTree) -> Result<OpTree, NoMemory>
     ensures { IfOk result (λ copy. copy ≡ op.now) }
@@ -37,7 +38,7 @@ pub fn copy_op(alloc: Global, op: &OpTree) -> Result<OpTree, NoMemory>
 }
 
 #[cycle(copy_op)]
-pub fn copy_regions(alloc: Global, regions: &[RegionTree]) -> Result<RegionList, NoMemory>
+fn copy_regions(alloc: Global, regions: &[RegionTree]) -> Result<RegionList, NoMemory>
     ensures { IfOk result (λ copies. copies ≡ regions.now) }
 {
     let mut copies = Items::new(alloc);
@@ -48,7 +49,7 @@ pub fn copy_regions(alloc: Global, regions: &[RegionTree]) -> Result<RegionList,
 }
 
 #[cycle(copy_op)]
-pub fn copy_region(alloc: Global, region: &RegionTree) -> Result<RegionTree, NoMemory>
+fn copy_region(alloc: Global, region: &RegionTree) -> Result<RegionTree, NoMemory>
     ensures { IfOk result (λ copy. copy ≡ region.now) }
 {
     Ok(RegionTree {
@@ -57,7 +58,7 @@ pub fn copy_region(alloc: Global, region: &RegionTree) -> Result<RegionTree, NoM
 }
 
 #[cycle(copy_op)]
-pub fn copy_blocks(alloc: Global, blocks: &[BlockTree]) -> Result<BlockList, NoMemory>
+fn copy_blocks(alloc: Global, blocks: &[BlockTree]) -> Result<BlockList, NoMemory>
     ensures { IfOk result (λ copies. copies ≡ blocks.now) }
 {
     let mut copies = Items::new(alloc);
@@ -68,7 +69,7 @@ pub fn copy_blocks(alloc: Global, blocks: &[BlockTree]) -> Result<BlockList, NoM
 }
 
 #[cycle(copy_op)]
-pub fn copy_block(alloc: Global, block: &BlockTree) -> Result<BlockTree, NoMemory>
+fn copy_block(alloc: Global, block: &BlockTree) -> Result<BlockTree, NoMemory>
     ensures { IfOk result (λ copy. copy ≡ block.now) }
 {
     Ok(BlockTree {
@@ -79,7 +80,7 @@ pub fn copy_block(alloc: Global, block: &BlockTree) -> Result<BlockTree, NoMemor
 }
 
 #[cycle(copy_op)]
-pub fn copy_ops(alloc: Global, ops: &[OpTree]) -> Result<OpList, NoMemory>
+fn copy_ops(alloc: Global, ops: &[OpTree]) -> Result<OpList, NoMemory>
     ensures { IfOk result (λ copies. copies ≡ ops.now) }
 {
     let mut copies = Items::new(alloc);
@@ -87,32 +88,4 @@ pub fn copy_ops(alloc: Global, ops: &[OpTree]) -> Result<OpList, NoMemory>
         copies.push(copy_op(alloc, op)?)?;
     }
     Ok(copies)
-}
-
-pub fn copy_func(alloc: Global, f: &FuncTree) -> Result<FuncTree, NoMemory>
-    ensures { IfOk result (λ copy. copy ≡ f.now) }
-{
-    Ok(FuncTree {
-        op: copy_op(alloc, &f.op)?,
-    })
-}
-
-pub fn copy_funcs(alloc: Global, funcs: &[FuncTree]) -> Result<FuncList, NoMemory>
-    ensures { IfOk result (λ copies. copies ≡ funcs.now) }
-{
-    let mut copies = Items::new(alloc);
-    for f in funcs {
-        copies.push(copy_func(alloc, f)?)?;
-    }
-    Ok(copies)
-}
-
-pub fn copy_module(alloc: Global, tree: &ModuleTree) -> Result<ModuleTree, NoMemory>
-    ensures { IfOk result (λ copy. copy ≡ tree.now) }
-{
-    Ok(ModuleTree {
-        props: copy_dict(alloc, tree.props.as_slice())?,
-        attrs: copy_dict(alloc, tree.attrs.as_slice())?,
-        funcs: copy_funcs(alloc, tree.funcs.as_slice())?,
-    })
 }

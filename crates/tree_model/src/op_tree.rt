@@ -1,5 +1,7 @@
+//! Operations, functions and modules.
+
 use crate::attr_tree::DictTree;
-use crate::bytes::Name;
+use crate::name::Name;
 use crate::type_tree::TypeTree;
 use sqlite_items::Items;
 

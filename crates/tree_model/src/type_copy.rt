@@ -1,3 +1,5 @@
+//! Copies of types.
+
 ghost use Rattle.std.specs.Prelude.{◌≡◌, IfOk};
 
 use crate::bytes::NoMemory;
@@ -5,6 +7,7 @@ use crate::type_tree::{TypeList, TypeTree};
 use sqlite_items::{Boxed, Items};
 use std::alloc::Global;
 
+/// A copy of a type.
 #[cycle(copy_type)]
 pub fn copy_type(alloc: Global, t: &TypeTree) -> Result<TypeTree, NoMemory>
     ensures { IfOk result (λ u. u ≡ t.now) }
@@ -38,7 +41,7 @@ pub fn copy_type(alloc: Global, t: &TypeTree) -> Result<TypeTree, NoMemory>
 }
 
 #[cycle(copy_type)]
-pub fn copy_types(alloc: Global, types: &[TypeTree]) -> Result<TypeList, NoMemory>
+fn copy_types(alloc: Global, types: &[TypeTree]) -> Result<TypeList, NoMemory>
     ensures { IfOk result (λ copies. copies ≡ types.now) }
 {
     let mut copies = Items::new(alloc);

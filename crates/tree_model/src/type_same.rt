@@ -1,7 +1,10 @@
+//! Equality of types.
+
 ghost use Rattle.std.specs.Prelude.{◌≡◌, ◌↔◌, IsTrue};
 
 use crate::type_tree::{Dim, TypeTree};
 
+/// Whether two types are one.
 #[cycle(same_type)]
 pub fn same_type(a: &TypeTree, b: &TypeTree) -> bool
     ensures { IsTrue result ↔ (a.now ≡ b.now) }
@@ -27,7 +30,7 @@ pub fn same_type(a: &TypeTree, b: &TypeTree) -> bool
 }
 
 #[cycle(same_type)]
-pub fn same_types(a: &[TypeTree], b: &[TypeTree]) -> bool
+fn same_types(a: &[TypeTree], b: &[TypeTree]) -> bool
     ensures { IsTrue result ↔ (a.now ≡ b.now) }
 {
     if a.len() != b.len() {
@@ -41,24 +44,14 @@ pub fn same_types(a: &[TypeTree], b: &[TypeTree]) -> bool
     true
 }
 
-pub fn same_dim(a: &Dim, b: &Dim) -> bool
-    ensures { IsTrue result ↔ (a.now ≡ b.now) }
-{
-    match (a, b) {
-        (Dim::Fixed(m), Dim::Fixed(n)) => m == n,
-        (Dim::Dynamic, Dim::Dynamic) => true,
-        _ => false,
-    }
-}
-
-pub fn same_dims(a: &[Dim], b: &[Dim]) -> bool
+fn same_dims(a: &[Dim], b: &[Dim]) -> bool
     ensures { IsTrue result ↔ (a.now ≡ b.now) }
 {
     if a.len() != b.len() {
         return false;
     }
     for (d, e) in a.iter().zip(b) {
-        if !same_dim(d, e) {
+        if d != e {
             return false;
         }
     }

@@ -1,3 +1,5 @@
+//! Types.
+
 use sqlite_items::{Boxed, Items};
 
 /// A dimension of a memref: a number, or one that only a run knows.

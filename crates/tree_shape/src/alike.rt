@@ -8,7 +8,7 @@ use tree_model::{BlockTree, OpTree, RegionTree, TypeTree, same_dict, same_type};
 pub fn alike_op(a: &OpTree, b: &OpTree) -> bool
     ensures { IsTrue result ↔ (op_without_numbers a.now ≡ op_without_numbers b.now) }
 {
-    if !a.name.same(&b.name) {
+    if a.name != b.name {
         return false;
     }
     if !alike_values(a.results.as_slice(), b.results.as_slice()) {

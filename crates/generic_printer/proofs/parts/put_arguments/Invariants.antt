@@ -1,6 +1,6 @@
 use Rattle.std.proofs.Common.{◌≡◌, ◌++◌, take, map}
 use Rattle.std.specs.Prelude.{codes}
-use Rattle.tree_model.specs.Joined.{led_by}
+use Rattle.tree_text.specs.Joined.{led_by}
 use Rattle.text_model.specs.PrintedOps.{argument_text}
 use Rattle.generic_printer.specs.NamesIn.{names_in}
 use Rattle.generic_printer.proofs.parts.put_arguments.Given as goal

@@ -1,7 +1,7 @@
 use Rattle.std.proofs.Common.{◌≡◌, ◌++◌, take, map}
 use Rattle.std.specs.Prelude.{codes, false}
-use Rattle.tree_model.specs.Joined.{led_by}
-use Rattle.tree_model.specs.TypeText.{text_at, printed}
+use Rattle.tree_text.specs.Joined.{led_by}
+use Rattle.tree_text.specs.TypeText.{text_at, printed}
 use Rattle.generic_printer.proofs.parts.put_listed_outputs.Given as goal
 
 abbrev pub invariant-loop-value : goal.invariant-loop-value

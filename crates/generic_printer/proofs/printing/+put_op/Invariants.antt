@@ -1,6 +1,6 @@
 use Rattle.std.proofs.Common.{◌≡◌, ◌++◌, take, drop, map}
 use Rattle.std.specs.Prelude.{codes, flat_map}
-use Rattle.tree_model.specs.Joined.{led_by}
+use Rattle.tree_text.specs.Joined.{led_by}
 use Rattle.text_model.specs.PrintedOps.{op_text, region_text, block_parts, blocks_from}
 use Rattle.generic_printer.specs.NamesIn.{names_in}
 use Rattle.generic_printer.proofs.printing.+put_op.Given as goal

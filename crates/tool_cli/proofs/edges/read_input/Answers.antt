@@ -1,11 +1,11 @@
-use Rattle.std.proofs.Common.{◌≤◌, ℕ, arith, rules}
+use Rattle.std.proofs.Common.{◌∙◌, refl, arith}
 use Rattle.tool_cli.proofs.Bytes.{ended_input, long_input, read_none, read_more, turn_grows}
 use Rattle.tool_cli.proofs.edges.read_input.Goals as goal
 
 pub reads-init : goal.reads-init
 reads-init g c = record {
   consumed = read_none _ _ c.new-text.ensures.items;
-  later = omega arith;
+  quiet = refl;
   turns = omega arith;
 }
 
@@ -19,7 +19,7 @@ returns-then-count-eq0-clause-whole g c = let ended = c.in-Ok.ensures.bytes.1 c.
 pub reads-preserved : goal.reads-preserved
 reads-preserved g c = record {
   consumed = read_more _ _ _ _ _ _ c.reads.invariant.consumed c.in-Ok.ensures.bytes.0 c.in_ok-extend_from_slice.ensures.items;
-  later = omega (arith, c.in-Ok.ensures.cause.later);
+  quiet = c.in-Ok.ensures.cause.quiet ∙ c.reads.invariant.quiet;
   turns = turn_grows _ _ _ _ _ c.reads.invariant.turns c.if-count-eq0.false c.in-Ok.ensures.bound.0 c.in_ok-extend_from_slice.ensures.items;
 }
 

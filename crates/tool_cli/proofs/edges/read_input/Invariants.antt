@@ -1,4 +1,4 @@
-use Rattle.std.proofs.Common.{◌≤◌, length}
+use Rattle.std.proofs.Common.{◌≡◌, ◌≤◌, length}
 use Rattle.std.specs.Io.KnownBytes.{Consumes}
 use Rattle.tool_cli.proofs.edges.read_input.Given as goal
 
@@ -6,6 +6,6 @@ use Rattle.tool_cli.proofs.edges.read_input.Given as goal
 abbrev pub invariant-reads : goal.invariant-reads
 invariant-reads g l = record {
   consumed : Consumes (g.S.Source.left l.fn.input) (g.S.Source.left l.input) l.text.items;
-  later : g.S.Source.faults l.fn.input ≤ g.S.Source.faults l.input;
+  quiet : g.S.Source.faults l.input ≡ g.S.Source.faults l.fn.input;
   turns : l.counter ≤ length l.text.items;
 }

@@ -1,6 +1,6 @@
 use Rattle.conv_driver.proofs.FirstModules.{first_modules}
 use Rattle.tool_cli.proofs.Bytes.{at_ok}
-use Rattle.tool_cli.specs.Replies.{Out, no_module, a_module}
+use Rattle.tool_cli.specs.Replies.{no_module, a_module}
 use Rattle.tool_cli.proofs.run.reply_to_text.Goals as goal
 
 pub made_by-requires : goal.made_by-requires
