@@ -1,7 +1,6 @@
-use std::alloc::AllocError;
+//! A line, with what it is ordered by.
 
-/// Memory was wanting.
-pub type NoMemory = AllocError;
+use tree_model::Bytes;
 
 /// A line about a function that failed in a pass.
 #[derive(Drop)]
@@ -15,5 +14,5 @@ pub struct Diag {
     /// The number of the operation that the unit's first line names.
     pub place: u32,
     /// The line without its line feed.
-    pub text: Vec<u8>,
+    pub text: Bytes,
 }

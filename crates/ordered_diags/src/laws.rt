@@ -1,3 +1,5 @@
+//! Laws of the lines and their order, each the contract of a function that does nothing.
+
 ghost use Rattle.ordered_diags.specs.Failures.{LinesOfAFailure};
 ghost use Rattle.ordered_diags.specs.Order.{OneOrder};
 

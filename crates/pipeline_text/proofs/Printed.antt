@@ -8,6 +8,8 @@ use Rattle.pipeline_text.specs.declared.pass.PassName.TheVariants.{ConvertScfToC
 use Rattle.pipeline_text.specs.declared.pass.PassUse.{PassUse}
 use Rattle.pipeline_text.specs.declared.pass.Anchor.{Anchor}
 use Rattle.pipeline_text.specs.declared.pass.Anchor.TheVariants.{FuncFunc, LlvmFunc}
+use Rattle.pipeline_text.specs.declared.pass.Stage.{Stage}
+use Rattle.pipeline_text.specs.declared.pass.Stage.TheVariants.{Each}
 use Rattle.pipeline_text.specs.declared.token.Token.{Token}
 use Rattle.pipeline_text.specs.declared.token.Level.{Level}
 use Rattle.pipeline_text.specs.declared.token.Level.TheVariants.{Nested}
@@ -19,9 +21,9 @@ use Rattle.pipeline_text.specs.declared.token.Wanted.TheVariants as wanted
 use Rattle.pipeline_text.specs.Kinds.{kind_of, fits}
 use Rattle.pipeline_text.specs.Passes.{pass_text}
 use Rattle.pipeline_text.specs.Words.{word_kind, tokens_of, cut}
-use Rattle.pipeline_text.specs.Grammar.{Item, whole, each, pass_of, pass_or_first, anchor_of, value_bits, use_of, each_of, pass_word, anchor_word, value_word, option_part, wide_part, plain_part, pass_part, nested_part, whole_part, item_part, pipeline}
+use Rattle.pipeline_text.specs.Grammar.{whole_of, pass_of, pass_or_first, anchor_of, value_bits, use_of, each_of, pass_word, anchor_word, value_word, option_part, wide_part, plain_part, pass_part, nested_part, whole_part, item_part, pipeline}
 use Rattle.pipeline_text.specs.Reading.{ReadsAs}
-use Rattle.pipeline_text.specs.Printing.{joined, use_text, anchor_text, item_text, printed}
+use Rattle.pipeline_text.specs.Printing.{joined, use_text, anchor_text, stage_text, printed}
 use Rattle.pipeline_text.specs.Promises.{PrintedReadsAgain}
 use Rattle.pipeline_text.proofs.Spelled.{Spells, spells_mapped, spells_then, spells_left, spells_right, spells_none, spells_before, spells_behind, spells_word, spells_before_word, spells_listed}
 
@@ -106,12 +108,12 @@ pass_part_again l u ts (inr w) = spells_right (wide_part l) (plain_part l) u (us
 in_parentheses : (a j : List ℕ) → a ++ (40 ∷ (j ++ 41 ∷ [])) ≡ ((a ++ 40 ∷ []) ++ j) ++ 41 ∷ []
 in_parentheses a j = sym (append_assoc (a ++ 40 ∷ []) j (41 ∷ []) ∙ append_assoc a (40 ∷ []) (j ++ 41 ∷ []))
 
-spells_each : (a : Anchor) (us : List PassUse) (ts : List Token) → (listed (fits wanted.Comma) (pass_part Nested)).Written us ts → Spells nested_part (each a us) (item_text (each a us))
+spells_each : (a : Anchor) (us : List PassUse) (ts : List Token) → (listed (fits wanted.Comma) (pass_part Nested)).Written us ts → Spells nested_part (Each a us) (stage_text (Each a us))
 unfolding nested_part
 spells_each a us ts w =
     let passes = listed (fits wanted.Comma) (pass_part Nested) in
     let text = joined (map use_text us) in
-    subst (λ (t : List ℕ). Spells nested_part (each a us) t) (in_parentheses (anchor_text a) text)
+    subst (λ (t : List ℕ). Spells nested_part (Each a us) t) (in_parentheses (anchor_text a) text)
     (spells_mapped each_of (anchor_word then fits wanted.Open ▸ passes ◂ fits wanted.Close) (a, us) (anchor_text a ++ (40 ∷ (text ++ 41 ∷ [])))
     (spells_then anchor_word (fits wanted.Open ▸ passes ◂ fits wanted.Close) a us (anchor_text a) (40 ∷ (text ++ 41 ∷ [])) (spells_anchor a)
     (spells_before (fits wanted.Open) (passes ◂ fits wanted.Close) us 40 (text ++ 41 ∷ []) (refl, refl, refl)
@@ -119,38 +121,38 @@ spells_each a us ts w =
     (spells_listed (fits wanted.Comma) (pass_part Nested) use_text (refl, refl, refl) (pass_part_again Nested) us ts w)))
     (λ rest ends. refl)))
 
-nested_again : (i : Item) (ts : List Token) → nested_part.Written i ts → Spells nested_part i (item_text i)
+nested_again : (i : Stage) (ts : List Token) → nested_part.Written i ts → Spells nested_part i (stage_text i)
 unfolding nested_part
 nested_again i ts (x, e, (_, _, _, (y, ey, (_, _, _, (z, ez, (front, _, w, _, _)), _)), _)) =
-    subst (λ (j : Item). Spells nested_part j (item_text j)) (ap (λ (us : List PassUse). each x.0 us) (ez ∙ ey) ∙ e) (spells_each x.0 z.0 front w)
+    subst (λ (j : Stage). Spells nested_part j (stage_text j)) (ap (λ (us : List PassUse). Each x.0 us) (ez ∙ ey) ∙ e) (spells_each x.0 z.0 front w)
 
-whole_again : (i : Item) (ts : List Token) → whole_part.Written i ts → Spells whole_part i (item_text i)
+whole_again : (i : Stage) (ts : List Token) → whole_part.Written i ts → Spells whole_part i (stage_text i)
 unfolding whole_part
-whole_again i ts (u, e, w) = subst (λ (j : Item). Spells (mapped whole (pass_part level.Module)) j (item_text j)) e
-    (spells_mapped whole (pass_part level.Module) u (use_text u) (pass_part_again level.Module u ts w))
+whole_again i ts (u, e, w) = subst (λ (j : Stage). Spells (mapped whole_of (pass_part level.Module)) j (stage_text j)) e
+    (spells_mapped whole_of (pass_part level.Module) u (use_text u) (pass_part_again level.Module u ts w))
 
-item_again : (i : Item) (ts : List Token) → item_part.Written i ts → Spells item_part i (item_text i)
+item_again : (i : Stage) (ts : List Token) → item_part.Written i ts → Spells item_part i (stage_text i)
 unfolding item_part
-item_again i ts (inl w) = spells_left whole_part nested_part i (item_text i) (whole_again i ts w)
-item_again i ts (inr w) = spells_right whole_part nested_part i (item_text i) (nested_again i ts w)
+item_again i ts (inl w) = spells_left whole_part nested_part i (stage_text i) (whole_again i ts w)
+item_again i ts (inr w) = spells_right whole_part nested_part i (stage_text i) (nested_again i ts w)
 
-spells_items : (items : List Item) (ts : List Token) → (listed (fits wanted.Comma) item_part).Written items ts → Spells pipeline items (printed items)
+spells_items : (items : List Stage) (ts : List Token) → (listed (fits wanted.Comma) item_part).Written items ts → Spells pipeline items (printed items)
 unfolding pipeline printed word_kind
 spells_items items ts w =
     let stages = listed (fits wanted.Comma) item_part in
-    let text = joined (map item_text items) in
+    let text = joined (map stage_text items) in
     subst (λ (t : List ℕ). Spells pipeline items t) (in_parentheses (codes "builtin.module") text)
     (spells_before_word (fits wanted.Module) (fits wanted.Open ▸ stages ◂ fits wanted.Close) items (codes "builtin.module") (40 ∷ (text ++ 41 ∷ [])) (refl, refl) refl (λ rest ends. refl)
     (spells_before (fits wanted.Open) (stages ◂ fits wanted.Close) items 40 (text ++ 41 ∷ []) (refl, refl, refl)
     (spells_behind (fits wanted.Close) stages items 41 text (refl, refl, refl)
-    (spells_listed (fits wanted.Comma) item_part item_text (refl, refl, refl) item_again items ts w))))
+    (spells_listed (fits wanted.Comma) item_part stage_text (refl, refl, refl) item_again items ts w))))
 
-pipeline_again : (items : List Item) (ts : List Token) → pipeline.Written items ts → Spells pipeline items (printed items)
+pipeline_again : (items : List Stage) (ts : List Token) → pipeline.Written items ts → Spells pipeline items (printed items)
 unfolding pipeline
 pipeline_again items ts (x, ex, (_, _, _, (y, ey, (_, _, _, (z, ez, (front, _, w, _, _)), _)), _)) =
-    subst (λ (is : List Item). Spells pipeline is (printed is)) (ez ∙ ey ∙ ex) (spells_items z.0 front w)
+    subst (λ (is : List Stage). Spells pipeline is (printed is)) (ez ∙ ey ∙ ex) (spells_items z.0 front w)
 
-spelled_whole : (items : List Item) (text : List ℕ) → Spells pipeline items text → ReadsAs text items
+spelled_whole : (items : List Stage) (text : List ℕ) → Spells pipeline items text → ReadsAs text items
 unfolding tokens_of
 spelled_whole items text spelled =
     let (ts, place, w, e) = spelled 0 [] tt in

@@ -15,7 +15,7 @@ use Rattle.pipeline_text.specs.declared.token.Kind.TheVariants.{Module, OnEach, 
 use Rattle.pipeline_text.specs.declared.token.Wanted.{Wanted}
 use Rattle.pipeline_text.specs.declared.token.Wanted.TheVariants as wanted
 use Rattle.pipeline_text.specs.Kinds.{fits}
-use Rattle.pipeline_text.specs.Grammar.{whole, each_of, use_of, pass_of, bits_of, anchor_of, pass_word, anchor_word, value_word, option_part, wide_part, plain_part, pass_part, nested_part, whole_part, item_part, pipeline}
+use Rattle.pipeline_text.specs.Grammar.{whole_of, each_of, use_of, pass_of, bits_of, anchor_of, pass_word, anchor_word, value_word, option_part, wide_part, plain_part, pass_part, nested_part, whole_part, item_part, pipeline}
 
 -- Every kind, and its place in the list
 
@@ -124,7 +124,7 @@ nested_laws = mapped_laws each_of (then_laws (mapped_laws anchor_of (token_laws 
 
 item_laws : IsSyntax item_part
 unfolding item_part whole_part nested_part anchor_word pass_part wide_part plain_part pass_word option_part value_word every
-item_laws = or_laws (mapped_laws whole (pass_laws level.Module)) nested_laws refl refl (apart _ _ refl)
+item_laws = or_laws (mapped_laws whole_of (pass_laws level.Module)) nested_laws refl refl (apart _ _ refl)
 
 pub pipeline_laws : IsSyntax pipeline
 unfolding pipeline item_part whole_part nested_part anchor_word pass_part wide_part plain_part pass_word option_part value_word a every

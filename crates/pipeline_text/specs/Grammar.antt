@@ -18,15 +18,6 @@ use Rattle.pipeline_text.specs.declared.token.Wanted.{Wanted}
 use Rattle.pipeline_text.specs.declared.token.Wanted.TheVariants as wanted
 use Rattle.pipeline_text.specs.Kinds.{kind_of, fits}
 
--- a stage, with its passes as a list
-pub data Item : Type 0 where
-  whole : PassUse → Item
-  each : Anchor → List PassUse → Item
-
-abbrev pub item_of : Stage → Item
-item_of (Whole p) = whole p
-item_of (Each a ps) = each a ps.items
-
 abbrev pub pass_or_first : Kind → PassName
 pass_or_first (kinds.Pass p) = p
 pass_or_first k = ConvertScfToCf
@@ -55,8 +46,11 @@ bits_of t = value_bits t.kind
 abbrev pub use_of : PassName × Option ℕ → PassUse
 use_of x = record { pass = x.0; bits = unwrap_or x.1 64 }
 
-abbrev pub each_of : Anchor × List PassUse → Item
-each_of x = each x.0 x.1
+abbrev pub each_of : Anchor × List PassUse → Stage
+each_of x = Each x.0 x.1
+
+abbrev pub whole_of : PassUse → Stage
+whole_of u = Whole u
 
 -- a word of a kind, and what it says
 unfoldable pub pass_word : Wanted → Syntax kind_of PassName
@@ -85,17 +79,17 @@ unfoldable pub pass_part : Level → Syntax kind_of PassUse
 pass_part level = wide_part level or plain_part level
 
 -- 'func.func' or 'llvm.func', '(' passes ')'
-unfoldable pub nested_part : Syntax kind_of Item
+unfoldable pub nested_part : Syntax kind_of Stage
 nested_part = mapped each_of (anchor_word then fits wanted.Open ▸ listed (fits wanted.Comma) (pass_part Nested) ◂ fits wanted.Close)
 
 -- a pass that stands for itself
-unfoldable pub whole_part : Syntax kind_of Item
-whole_part = mapped whole (pass_part level.Module)
+unfoldable pub whole_part : Syntax kind_of Stage
+whole_part = mapped whole_of (pass_part level.Module)
 
 -- a pass or a nested list
-unfoldable pub item_part : Syntax kind_of Item
+unfoldable pub item_part : Syntax kind_of Stage
 item_part = whole_part or nested_part
 
 -- 'builtin.module' '(' items ')'
-unfoldable pub pipeline : Syntax kind_of (List Item)
+unfoldable pub pipeline : Syntax kind_of (List Stage)
 pipeline = fits wanted.Module ▸ fits wanted.Open ▸ listed (fits wanted.Comma) item_part ◂ fits wanted.Close

@@ -4,7 +4,8 @@ use Rattle.pipeline_text.specs.declared.pass.PassUse.{PassUse}
 use Rattle.pipeline_text.specs.declared.pass.Anchor.{Anchor}
 use Rattle.pipeline_text.specs.declared.pass.Anchor.TheVariants.{FuncFunc, LlvmFunc}
 use Rattle.pipeline_text.specs.Passes.{pass_text}
-use Rattle.pipeline_text.specs.Grammar.{Item, whole, each}
+use Rattle.pipeline_text.specs.declared.pass.Stage.{Stage}
+use Rattle.pipeline_text.specs.declared.pass.Stage.TheVariants.{Whole, Each}
 
 -- texts with a comma between two
 abbrev pub joined : List (List ℕ) → List ℕ
@@ -22,9 +23,9 @@ abbrev pub anchor_text : Anchor → List ℕ
 anchor_text FuncFunc = codes "func.func"
 anchor_text LlvmFunc = codes "llvm.func"
 
-abbrev pub item_text : Item → List ℕ
-item_text (whole u) = use_text u
-item_text (each a us) = anchor_text a ++ codes "(" ++ joined (map use_text us) ++ codes ")"
+abbrev pub stage_text : Stage → List ℕ
+stage_text (Whole u) = use_text u
+stage_text (Each a us) = anchor_text a ++ codes "(" ++ joined (map use_text us) ++ codes ")"
 
-unfoldable pub printed : List Item → List ℕ
-printed items = codes "builtin.module(" ++ joined (map item_text items) ++ codes ")"
+unfoldable pub printed : List Stage → List ℕ
+printed stages = codes "builtin.module(" ++ joined (map stage_text stages) ++ codes ")"

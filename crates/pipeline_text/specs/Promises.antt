@@ -3,7 +3,7 @@ use Rattle.std.specs.Prelude.{◌≡◌, ℕ, ◌+◌, Bool, true, false, ◌&&�
 use Rattle.std.specs.List.{list_all}
 use Rattle.pipeline_text.specs.declared.refusal.PipelineKind.{PipelineKind}
 use Rattle.pipeline_text.specs.declared.token.Token.{Token}
-use Rattle.pipeline_text.specs.Grammar.{Item}
+use Rattle.pipeline_text.specs.declared.pass.Stage.{Stage}
 use Rattle.pipeline_text.specs.declared.token.Wanted.TheVariants.{NoOption}
 use Rattle.pipeline_text.specs.Kinds.{fits}
 use Rattle.pipeline_text.specs.Words.{cut, in_word, tokens_of, word_kind}
@@ -12,12 +12,12 @@ use Rattle.pipeline_text.specs.Printing.{printed}
 
 -- the printed text of what a text reads as reads as the same
 abbrev pub PrintedReadsAgain : Type 0
-PrintedReadsAgain = (text : List ℕ) (items : List Item) → ReadsAs text items → ReadsAs (printed items) items
+PrintedReadsAgain = (text : List ℕ) (stages : List Stage) → ReadsAs text stages → ReadsAs (printed stages) stages
 
 -- a text reads as one list of stages, or is refused at one place as one kind
 pub record HasOneAnswer (text : List ℕ) : Type 0 where
-  pub one_reading : (a b : List Item) → ReadsAs text a → ReadsAs text b → a ≡ b
-  pub not_both : (a : List Item) (place : ℕ) (kind : PipelineKind) → ReadsAs text a → IsRefused text place kind → ⊥
+  pub one_reading : (a b : List Stage) → ReadsAs text a → ReadsAs text b → a ≡ b
+  pub not_both : (a : List Stage) (place : ℕ) (kind : PipelineKind) → ReadsAs text a → IsRefused text place kind → ⊥
   pub one_place : (p q : ℕ) (k j : PipelineKind) → IsRefused text p k → IsRefused text q j → p ≡ q
   pub one_kind : (p q : ℕ) (k j : PipelineKind) → IsRefused text p k → IsRefused text q j → k ≡ j
 

@@ -1,5 +1,5 @@
 -- What a text reads as, and where and why it reads as nothing.
-use Rattle.std.specs.Prelude.{◌≡◌, ℕ, Bool, true, false, List, [], ◌∷◌, length, map, Option, Some, None, Result, Ok, Err, ⊤, if◌then◌else◌}
+use Rattle.std.specs.Prelude.{◌≡◌, ℕ, Bool, true, false, List, [], ◌∷◌, length, Option, Some, None, Result, Ok, Err, ⊤, if◌then◌else◌}
 use Rattle.grammar_model.specs.Expected.{IsExpected}
 use Rattle.pipeline_text.specs.declared.pass.Pipeline.{Pipeline}
 use Rattle.pipeline_text.specs.declared.refusal.PipelineKind.{PipelineKind}
@@ -9,16 +9,13 @@ use Rattle.pipeline_text.specs.declared.refusal.PipelineRefusal.TheVariants.{At,
 use Rattle.pipeline_text.specs.declared.token.Token.{Token}
 use Rattle.pipeline_text.specs.declared.token.Kind.{Kind}
 use Rattle.pipeline_text.specs.declared.token.Kind.TheVariants.{Module, OnEach, Pass, Width, Zero, SixtyFour, OtherWord, Open, OpenBrace, Equals, Comma}
-use Rattle.pipeline_text.specs.Grammar.{Item, item_of, pipeline}
+use Rattle.pipeline_text.specs.declared.pass.Stage.{Stage}
+use Rattle.pipeline_text.specs.Grammar.{pipeline}
 use Rattle.pipeline_text.specs.Words.{tokens_of}
 
--- the stages of a pipeline, as a list
-abbrev pub items_of : Pipeline → List Item
-items_of p = map item_of p.stages.items
-
 -- the text is a way to write these stages
-abbrev pub ReadsAs : List ℕ → List Item → Type 0
-ReadsAs text items = pipeline.Written items (tokens_of text)
+abbrev pub ReadsAs : List ℕ → List Stage → Type 0
+ReadsAs text stages = pipeline.Written stages (tokens_of text)
 
 abbrev pub first_kind : List Token → Option Kind
 first_kind [] = None
@@ -84,7 +81,7 @@ RefusesRightly text (Err (At place kind)) = IsRefused text place kind
 RefusesRightly text (Err NoMemory) = ⊤
 
 -- the stages are answered, but for want of memory
-abbrev pub AnswersWith : Result Pipeline PipelineRefusal → List Item → Type 0
-AnswersWith (Ok p) items = items_of p ≡ items
-AnswersWith (Err (At place kind)) items = ⊥
-AnswersWith (Err NoMemory) items = ⊤
+abbrev pub AnswersWith : Result Pipeline PipelineRefusal → List Stage → Type 0
+AnswersWith (Ok p) stages = p.stages ≡ stages
+AnswersWith (Err (At place kind)) stages = ⊥
+AnswersWith (Err NoMemory) stages = ⊤

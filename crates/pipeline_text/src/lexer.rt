@@ -6,7 +6,9 @@ ghost use Rattle.pipeline_text.specs.Words.{kind_text, word_kind, byte_kind, in_
 
 use crate::pass::{Anchor, PassName};
 use crate::token::{Kind, Token};
-use std::alloc::{AllocError, Global};
+use sqlite_items::Items;
+use std::alloc::Global;
+use tree_model::NoMemory;
 
 /// The kinds that are one word.
 const WORDS: [Kind; 14] = [
@@ -98,14 +100,14 @@ fn is_blank(byte: u8) -> bool
 
 /// Adds the word that ends at a place, if there is one.
 fn close_word(
-    tokens: &mut Vec<Token>,
+    tokens: &mut Items<Token>,
     text: &[u8],
     start: usize,
     at: usize,
-) -> Result<(), AllocError>
+) -> Result<(), NoMemory>
     requires in_order { start ≤ at }
     requires in_text { at ≤ length text.now }
-    ensures { OnOk result (tokens.new.items ≡ tokens.old.items ++ closed (take (at - start) (drop start text.now)) at) }
+    ensures { OnOk result (tokens.new ≡ tokens.old ++ closed (take (at - start) (drop start text.now)) at) }
 {
     if start < at {
         let kind = word_kind(&text[start..at]);
@@ -116,15 +118,15 @@ fn close_word(
 
 /// Adds the word that ends before a byte, and the byte, if it is no blank.
 fn add_byte(
-    tokens: &mut Vec<Token>,
+    tokens: &mut Items<Token>,
     text: &[u8],
     start: usize,
     at: usize,
     byte: u8,
-) -> Result<(), AllocError>
+) -> Result<(), NoMemory>
     requires in_order { start ≤ at }
     requires in_text { at ≤ length text.now }
-    ensures { OnOk result (tokens.new.items ≡ tokens.old.items ++ closed (take (at - start) (drop start text.now)) at ++ alone at byte) }
+    ensures { OnOk result (tokens.new ≡ tokens.old ++ closed (take (at - start) (drop start text.now)) at ++ alone at byte) }
 {
     close_word(tokens, text, start, at)?;
     if !is_blank(byte) {
@@ -137,10 +139,10 @@ fn add_byte(
 }
 
 /// The tokens of a text.
-pub fn lex(alloc: Global, text: &[u8]) -> Result<Vec<Token>, AllocError>
-    ensures { IfOk result (λ tokens. tokens.items ≡ tokens_of text.now) }
+pub fn lex(alloc: Global, text: &[u8]) -> Result<Items<Token>, NoMemory>
+    ensures { IfOk result (λ tokens. tokens ≡ tokens_of text.now) }
 {
-    let mut tokens = Vec::new(alloc);
+    let mut tokens = Items::new(alloc);
     let mut start = 0;
     'each: for (at, byte) in text.iter().enumerate() {
         if !is_in_word(*byte) {

@@ -14,7 +14,7 @@ pub use laws::{
     law_no_option_in_texts, law_one_answer, law_printed_reads_again, law_runs_are_words,
 };
 pub use pass::{Anchor, PassName, PassUse, Pipeline, Stage};
-pub use printer::{NoMemory, print_pipeline};
+pub use printer::print_pipeline;
 pub use reading::read_pipeline;
 pub use refusal::{PipelineKind, PipelineRefusal};
-pub use token::{Kind, Level, Token, Wanted};
+pub use tree_model::NoMemory;

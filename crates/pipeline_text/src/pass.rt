@@ -1,3 +1,7 @@
+//! Pipelines: passes, and what each runs on.
+
+use sqlite_items::Items;
+
 /// The passes, in the order of the table in docs/LOWERING.md.
 #[derive(Clone, Copy, PartialEq, Eq, Debug)]
 pub enum PassName {
@@ -30,10 +34,10 @@ pub enum Stage {
     /// A pass on every function, and then its step on the module.
     Whole(PassUse),
     /// Passes on each function with the operation's name.
-    Each(Anchor, Vec<PassUse>),
+    Each(Anchor, Items<PassUse>),
 }
 
 #[derive(Drop)]
 pub struct Pipeline {
-    pub stages: Vec<Stage>,
+    pub stages: Items<Stage>,
 }

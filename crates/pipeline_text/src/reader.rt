@@ -1,16 +1,16 @@
 //! Reads tokens as the grammar says.
 
-ghost use Rattle.std.specs.Prelude.{◌≡◌, List, [], ◌∷◌, map};
+ghost use Rattle.std.specs.Prelude.{◌≡◌, List, [], ◌∷◌};
 ghost use Rattle.grammar_model.specs.Syntax.{begins, token, many, maybe, with_front, ◌▸◌, listed};
 ghost use Rattle.grammar_model.specs.Expected.{whole_of};
 ghost use Rattle.grammar_model.specs.Stopping.{Gives};
-ghost use Rattle.pipeline_text.specs.Reading.{items_of};
 ghost use Rattle.pipeline_text.specs.Kinds.{kind_of, fits};
-ghost use Rattle.pipeline_text.specs.Grammar.{pass_of, anchor_of, bits_of, pass_word, anchor_word, value_word, option_part, wide_part, plain_part, pass_part, nested_part, whole_part, item_part, item_of, pipeline};
+ghost use Rattle.pipeline_text.specs.Grammar.{pass_of, anchor_of, bits_of, pass_word, anchor_word, value_word, option_part, wide_part, plain_part, pass_part, nested_part, whole_part, item_part, pipeline};
 
 use crate::pass::{Anchor, PassName, PassUse, Pipeline, Stage};
 use crate::token::{Kind, Level, Token, Wanted, fit};
 use grammar_model::Stop;
+use sqlite_items::Items;
 use std::alloc::Global;
 
 /// How wide `index` is where no option says it.
@@ -190,10 +190,11 @@ fn read_more_passes(
     alloc: Global,
     first: PassUse,
     tokens: &[Token],
-) -> Result<(Vec<PassUse>, &[Token]), Stop<'_, Token>>
-    ensures { Gives (λ x. (x.0.items, x.1.now)) result (with_front (first ∷ []) ((many (fits Wanted.Comma ▸ pass_part Level.Nested)).read tokens.now)) }
+) -> Result<(Items<PassUse>, &[Token]), Stop<'_, Token>>
+    ensures { Gives (λ x. (x.0, x.1.now)) result (with_front (first ∷ []) ((many (fits Wanted.Comma ▸ pass_part Level.Nested)).read tokens.now)) }
 {
-    let mut found = vec![in alloc; first]?;
+    let mut found = Items::new(alloc);
+    found.push(first)?;
     let mut rest = tokens;
     'each: for _ in 0..tokens.len() {
         if !next_fits(Wanted::Comma, rest) {
@@ -206,11 +207,14 @@ fn read_more_passes(
     Ok((found, rest))
 }
 
-fn read_passes(alloc: Global, tokens: &[Token]) -> Result<(Vec<PassUse>, &[Token]), Stop<'_, Token>>
-    ensures { Gives (λ x. (x.0.items, x.1.now)) result ((listed (fits Wanted.Comma) (pass_part Level.Nested)).read tokens.now) }
+fn read_passes(
+    alloc: Global,
+    tokens: &[Token],
+) -> Result<(Items<PassUse>, &[Token]), Stop<'_, Token>>
+    ensures { Gives (λ x. (x.0, x.1.now)) result ((listed (fits Wanted.Comma) (pass_part Level.Nested)).read tokens.now) }
 {
     if !pass_next(Level::Nested, tokens) {
-        return Ok((Vec::new(alloc), tokens));
+        return Ok((Items::new(alloc), tokens));
     }
     let (first, rest) = read_pass(Level::Nested, tokens)?;
     read_more_passes(alloc, first, rest)
@@ -218,7 +222,7 @@ fn read_passes(alloc: Global, tokens: &[Token]) -> Result<(Vec<PassUse>, &[Token
 
 #[tactic(auto, unfolding(crate::specs::Grammar::nested_part))]
 fn read_nested(alloc: Global, tokens: &[Token]) -> Result<(Stage, &[Token]), Stop<'_, Token>>
-    ensures { Gives (λ x. (item_of x.0, x.1.now)) result (nested_part.read tokens.now) }
+    ensures { Gives (λ x. (x.0, x.1.now)) result (nested_part.read tokens.now) }
 {
     let (anchor, rest) = read_anchor(tokens)?;
     let (_, rest) = take(Wanted::Open, rest)?;
@@ -229,7 +233,7 @@ fn read_nested(alloc: Global, tokens: &[Token]) -> Result<(Stage, &[Token]), Sto
 
 #[tactic(auto, unfolding(crate::specs::Grammar::whole_part))]
 fn read_whole(tokens: &[Token]) -> Result<(Stage, &[Token]), Stop<'_, Token>>
-    ensures { Gives (λ x. (item_of x.0, x.1.now)) result (whole_part.read tokens.now) }
+    ensures { Gives (λ x. (x.0, x.1.now)) result (whole_part.read tokens.now) }
 {
     let (pass, rest) = read_pass(Level::Module, tokens)?;
     Ok((Stage::Whole(pass), rest))
@@ -244,7 +248,7 @@ fn whole_next(tokens: &[Token]) -> bool
 
 #[tactic(auto, unfolding(crate::specs::Grammar::item_part))]
 fn read_item(alloc: Global, tokens: &[Token]) -> Result<(Stage, &[Token]), Stop<'_, Token>>
-    ensures { Gives (λ x. (item_of x.0, x.1.now)) result (item_part.read tokens.now) }
+    ensures { Gives (λ x. (x.0, x.1.now)) result (item_part.read tokens.now) }
 {
     if whole_next(tokens) {
         read_whole(tokens)
@@ -261,7 +265,7 @@ fn item_next(tokens: &[Token]) -> bool
 }
 
 fn read_next_item(alloc: Global, tokens: &[Token]) -> Result<(Stage, &[Token]), Stop<'_, Token>>
-    ensures { Gives (λ x. (item_of x.0, x.1.now)) result ((fits Wanted.Comma ▸ item_part).read tokens.now) }
+    ensures { Gives (λ x. (x.0, x.1.now)) result ((fits Wanted.Comma ▸ item_part).read tokens.now) }
 {
     let (_, rest) = take(Wanted::Comma, tokens)?;
     let (stage, rest) = read_item(alloc, rest)?;
@@ -273,10 +277,11 @@ fn read_more_items(
     alloc: Global,
     first: Stage,
     tokens: &[Token],
-) -> Result<(Vec<Stage>, &[Token]), Stop<'_, Token>>
-    ensures { Gives (λ x. (map item_of x.0.items, x.1.now)) result (with_front (item_of first ∷ []) ((many (fits Wanted.Comma ▸ item_part)).read tokens.now)) }
+) -> Result<(Items<Stage>, &[Token]), Stop<'_, Token>>
+    ensures { Gives (λ x. (x.0, x.1.now)) result (with_front (first ∷ []) ((many (fits Wanted.Comma ▸ item_part)).read tokens.now)) }
 {
-    let mut found = vec![in alloc; first]?;
+    let mut found = Items::new(alloc);
+    found.push(first)?;
     let mut rest = tokens;
     'each: for _ in 0..tokens.len() {
         if !next_fits(Wanted::Comma, rest) {
@@ -289,11 +294,11 @@ fn read_more_items(
     Ok((found, rest))
 }
 
-fn read_items(alloc: Global, tokens: &[Token]) -> Result<(Vec<Stage>, &[Token]), Stop<'_, Token>>
-    ensures { Gives (λ x. (map item_of x.0.items, x.1.now)) result ((listed (fits Wanted.Comma) item_part).read tokens.now) }
+fn read_items(alloc: Global, tokens: &[Token]) -> Result<(Items<Stage>, &[Token]), Stop<'_, Token>>
+    ensures { Gives (λ x. (x.0, x.1.now)) result ((listed (fits Wanted.Comma) item_part).read tokens.now) }
 {
     if !item_next(tokens) {
-        return Ok((Vec::new(alloc), tokens));
+        return Ok((Items::new(alloc), tokens));
     }
     let (first, rest) = read_item(alloc, tokens)?;
     read_more_items(alloc, first, rest)
@@ -302,7 +307,7 @@ fn read_items(alloc: Global, tokens: &[Token]) -> Result<(Vec<Stage>, &[Token]),
 #[tactic(auto, unfolding(crate::specs::Grammar::pipeline))]
 /// All of the tokens.
 pub fn read_all(alloc: Global, tokens: &[Token]) -> Result<Pipeline, Stop<'_, Token>>
-    ensures { Gives items_of result (whole_of pipeline tokens.now) }
+    ensures { Gives (λ p. p.stages) result (whole_of pipeline tokens.now) }
 {
     let (_, rest) = take(Wanted::Module, tokens)?;
     let (_, rest) = take(Wanted::Open, rest)?;

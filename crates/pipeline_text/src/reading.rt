@@ -3,9 +3,10 @@
 ghost use Rattle.std.specs.Prelude.{◌≡◌, List, IfOk, Ok, Err};
 ghost use Rattle.grammar_model.specs.Expected.{IsExpected};
 ghost use Rattle.grammar_model.specs.Stopping.{Gives, StopsExpected};
-ghost use Rattle.pipeline_text.specs.Grammar.{Item, item_of, pipeline};
+ghost use Rattle.pipeline_text.specs.Grammar.{pipeline};
+ghost use Rattle.pipeline_text.specs.declared.pass.Stage.{Stage};
 ghost use Rattle.pipeline_text.specs.Words.{tokens_of};
-ghost use Rattle.pipeline_text.specs.Reading.{ReadsAs, AnswersWith, RefusesRightly, first_kind, items_of, last_kind, place_of};
+ghost use Rattle.pipeline_text.specs.Reading.{ReadsAs, AnswersWith, RefusesRightly, first_kind, last_kind, place_of};
 
 use crate::lexer::lex;
 use crate::pass::Pipeline;
@@ -17,23 +18,23 @@ use std::alloc::Global;
 
 /// The pipeline that a text says.
 pub fn read_pipeline(alloc: Global, text: &[u8]) -> Result<Pipeline, PipelineRefusal>
-    ensures found { IfOk result (λ p. ReadsAs text.now (items_of p)) }
-    ensures only { (items : List Item) → ReadsAs text.now items → AnswersWith result items }
+    ensures found { IfOk result (λ p. ReadsAs text.now p.stages) }
+    ensures only { (stages : List Stage) → ReadsAs text.now stages → AnswersWith result stages }
     ensures refused { RefusesRightly text.now result }
 {
     let tokens = lex(alloc, text)?;
-    match read_tokens(alloc, &tokens) {
+    match read_tokens(alloc, tokens.as_slice()) {
         Ok(pipeline) => Ok(pipeline),
         Err(Stop::Memory) => Err(PipelineRefusal::NoMemory),
-        Err(Stop::At(rest)) => Err(refusal(text, &tokens, rest)),
+        Err(Stop::At(rest)) => Err(refusal(text, tokens.as_slice(), rest)),
     }
 }
 
 /// The pipeline that tokens say.
 fn read_tokens(alloc: Global, tokens: &[Token]) -> Result<Pipeline, Stop<'_, Token>>
-    ensures found { IfOk result (λ p. pipeline.Written (items_of p) tokens.now) }
+    ensures found { IfOk result (λ p. pipeline.Written p.stages tokens.now) }
     ensures refused { StopsExpected pipeline tokens.now result }
-    ensures only { (items : List Item) → pipeline.Written items tokens.now → Gives items_of result (Ok items) }
+    ensures only { (stages : List Stage) → pipeline.Written stages tokens.now → Gives (λ p. p.stages) result (Ok stages) }
 {
     read_all(alloc, tokens)
 }

@@ -1,9 +1,11 @@
 //! The order of diagnostics.
 
 use ordered_diags::{Diag, merge};
+use sqlite_items::Items;
 use std::alloc::Global;
 use std::process::Abort;
 use std::test::Fail;
+use tree_model::Bytes;
 
 /// The lines of three failed units, in their order.
 const LINES: [(u32, u32, u32, u32, &str); 6] = [
@@ -34,12 +36,12 @@ const LINES: [(u32, u32, u32, u32, &str); 6] = [
 ];
 
 /// The lines from the last to the first, each in the list that `split` says.
-fn given(alloc: Global, split: [u8; 6]) -> Result<Vec<Vec<Diag>>, Fail> {
-    let mut first = Vec::new(alloc);
-    let mut second = Vec::new(alloc);
-    let mut third = Vec::new(alloc);
+fn given(alloc: Global, split: [u8; 6]) -> Result<Items<Items<Diag>>, Fail> {
+    let mut first = Items::new(alloc);
+    let mut second = Items::new(alloc);
+    let mut third = Items::new(alloc);
     for ((function, pass, sequence, place, text), list) in LINES.iter().zip(split.iter()).rev() {
-        let text = Vec::from_slice(alloc, text.as_bytes())?;
+        let text = Bytes::from_slice(alloc, text.as_bytes())?;
         let diag = Diag {
             function: *function,
             pass: *pass,
@@ -53,7 +55,11 @@ fn given(alloc: Global, split: [u8; 6]) -> Result<Vec<Vec<Diag>>, Fail> {
             _ => third.push(diag)?,
         }
     }
-    Ok(vec![in alloc; first, second, third]?)
+    let mut lists = Items::new(alloc);
+    lists.push(first)?;
+    lists.push(second)?;
+    lists.push(third)?;
+    Ok(lists)
 }
 
 #[test]
@@ -61,7 +67,11 @@ fn lines_stand_in_one_order_however_they_are_split(rt: HostRuntime) -> Result<()
     for split in [[0, 0, 0, 0, 0, 0], [2, 0, 1, 2, 1, 0], [1, 2, 1, 1, 2, 2]] {
         let merged = merge(rt.alloc(), given(rt.alloc(), split)?)?;
         assert_eq!(rt; merged.len(), LINES.len());
-        for (diag, (function, pass, sequence, place, text)) in merged.iter().zip(LINES.iter()) {
+        for (diag, (function, pass, sequence, place, text)) in merged
+            .as_slice()
+            .iter()
+            .zip(LINES.iter())
+        {
             let numbers = (diag.function, diag.pass, diag.sequence, diag.place);
             assert_eq!(rt; numbers, (*function, *pass, *sequence, *place));
             assert!(rt; diag.text.as_slice() == text.as_bytes(), "{text}");

@@ -4,6 +4,7 @@ use pipeline_text::{
     Anchor, PassName, PassUse, Pipeline, PipelineKind, PipelineRefusal, Stage, print_pipeline,
     read_pipeline,
 };
+use sqlite_items::Items;
 use std::alloc::Global;
 use std::process::Abort;
 use std::test::Fail;
@@ -294,8 +295,10 @@ fn narrow_passes_are_printed_with_their_option(rt: HostRuntime) -> Result<(), Fa
         pass: PassName::ArithExpand,
         bits: 64,
     };
-    let passes = vec![in rt.alloc(); wide, narrow]?;
-    let stages = vec![in rt.alloc(); Stage::Each(Anchor::LlvmFunc, passes), Stage::Whole(narrow)]?;
+    let passes = Items::from_slice(rt.alloc(), &[wide, narrow])?;
+    let mut stages = Items::new(rt.alloc());
+    stages.push(Stage::Each(Anchor::LlvmFunc, passes))?;
+    stages.push(Stage::Whole(narrow))?;
     let printed = print_pipeline(rt.alloc(), &Pipeline { stages })?;
     let wanted =
         b"builtin.module(llvm.func(arith-expand,convert-arith-to-llvm{index-bitwidth=32}),convert-arith-to-llvm{index-bitwidth=32})";

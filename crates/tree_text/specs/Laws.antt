@@ -1,5 +1,5 @@
 -- Texts of types and attributes, written out.
-use Rattle.std.specs.Prelude.{ℕ, ◌≡◌, List, [], ◌∷◌, codes, pos, negsuc}
+use Rattle.std.specs.Prelude.{◌≡◌, [], ◌∷◌, codes, pos, negsuc}
 use Rattle.tree_model.specs.declared.type_tree.Dim.TheVariants.{Fixed, Dynamic}
 use Rattle.tree_model.specs.declared.type_tree.TypeTree as type
 use Rattle.tree_model.specs.declared.attr_tree.AttrTree as attr

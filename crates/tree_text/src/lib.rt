@@ -1,4 +1,5 @@
-//! The printed texts of types and attributes.
+//! The printed texts of types and attributes. Where memory is wanting, a `put_..` leaves the text as
+//! it was.
 #![tactic(auto)]
 
 mod grow;

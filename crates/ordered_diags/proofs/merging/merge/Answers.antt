@@ -10,6 +10,6 @@ numbers d = (d.function, d.pass, d.sequence)
 pub returns : goal.returns
 unfolding numbers
 returns c = record {
-  all = rw (← c.in_ok-all.ensures) c.in_ok-sort_by_key.ensures.permutation;
-  in_order = c.in_ok-sort_by_key.ensures.sorted numbers (answers_always _ (λ a r. r ≡ numbers a.0.now) _ (λ f a r g k. search rules));
+  all = rw (c.from_vec.ensures, ← c.in_ok-all.ensures) c.in_ok-sort_by_key.ensures.permutation;
+  in_order = rw c.from_vec.ensures (c.in_ok-sort_by_key.ensures.sorted numbers (answers_always _ (λ a r. r ≡ numbers a.0.now) _ (λ f a r g k. search rules)));
 }

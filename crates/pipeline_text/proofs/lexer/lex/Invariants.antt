@@ -3,4 +3,4 @@ use Rattle.pipeline_text.proofs.Cuts.{IsCutTo}
 use Rattle.pipeline_text.proofs.lexer.lex.Given as goal
 
 abbrev pub invariant-each : goal.invariant-each
-invariant-each l = IsCutTo l.tokens.items l.start l.at l.text
+invariant-each l = IsCutTo l.tokens l.start l.at l.text

@@ -11,5 +11,5 @@ returns-in_err-pass c = stops_early c.each.invariant (grind arith) (length c.arg
     c.in_err-pass.field-0.0 c.in_err-pass.ensures _ c.from_residual-in_err-pass.result c.from_residual-in_err-pass.ensures.1
 
 pub each-preserved : goal.each-preserved
-each-preserved c = rw c.in_ok-push.ensures.items
+each-preserved c = rw c.in_ok-push-2.ensures.ok
     (one_more c.each.invariant (grind arith) (length c.args.tokens.now - (c.each.counter + 1)) (omega arith) c.in_ok-pass.pass c.in_ok-pass.behind.now c.in_ok-pass.ensures)

@@ -9,5 +9,5 @@ use Rattle.pipeline_text.specs.Grammar.{pass_part}
 use Rattle.pipeline_text.proofs.reader.read_more_passes.Given as goal
 
 abbrev pub invariant-each : goal.invariant-each
-invariant-each l = IsAhead (fits Comma ▸ pass_part Nested) l.found.items (length l.tokens - l.counter) l.rest
+invariant-each l = IsAhead (fits Comma ▸ pass_part Nested) l.found (length l.tokens - l.counter) l.rest
     (with_front (l.fn.first ∷ []) ((many (fits Comma ▸ pass_part Nested)).read l.tokens))
