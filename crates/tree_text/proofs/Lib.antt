@@ -1,3 +1,4 @@
 mod GrewLaws
 mod TypeLaws
 mod ShownLaws
+mod TextLaws

@@ -3,3 +3,4 @@ pub mod Grew
 pub mod NameText
 pub mod TypeText
 pub mod AttrText
+pub mod Laws

@@ -1,11 +1,12 @@
 //! Single steps of a text that only grows, which the larger ones are made of.
+#![tactic(auto, using(crate::proofs::GrewLaws::put_laws))]
+
 ghost use Rattle.std.specs.Prelude.{◌≡◌, ◌++◌, OnOk};
 ghost use Rattle.std.specs.Fmt.{decimal, signed_decimal};
 ghost use Rattle.tree_text.specs.Grew.{Grew};
 
 use tree_model::{Bytes, NoMemory};
 
-#[tactic(auto, using(crate::proofs::GrewLaws::put_laws))]
 pub fn add(out: &mut Bytes, text: &[u8]) -> Result<(), NoMemory>
     ensures ok { OnOk result (out.new ≡ out.old ++ text.now) }
     ensures grew { Grew out.old out.new }
@@ -14,7 +15,6 @@ pub fn add(out: &mut Bytes, text: &[u8]) -> Result<(), NoMemory>
     Ok(())
 }
 
-#[tactic(auto, using(crate::proofs::GrewLaws::put_laws))]
 pub fn add_number(out: &mut Bytes, number: u64) -> Result<(), NoMemory>
     ensures ok { OnOk result (out.new ≡ out.old ++ decimal number) }
     ensures grew { Grew out.old out.new }
@@ -23,7 +23,6 @@ pub fn add_number(out: &mut Bytes, number: u64) -> Result<(), NoMemory>
     Ok(())
 }
 
-#[tactic(auto, using(crate::proofs::GrewLaws::put_laws))]
 pub fn add_signed(out: &mut Bytes, number: i64) -> Result<(), NoMemory>
     ensures ok { OnOk result (out.new ≡ out.old ++ signed_decimal number) }
     ensures grew { Grew out.old out.new }

@@ -1,4 +1,6 @@
 //! Prints attributes and dictionaries.
+#![tactic(auto, using(crate::proofs::GrewLaws::grew_laws))]
+
 ghost use Rattle.std.specs.Prelude.{◌≡◌, ◌++◌, IfOk, OnOk, OnErr, map, codes};
 ghost use Rattle.tree_text.specs.Joined.{joined};
 ghost use Rattle.tree_text.specs.Grew.{Grew};
@@ -20,7 +22,6 @@ pub fn attr_text(alloc: Global, a: &AttrTree) -> Result<Bytes, NoMemory>
 }
 
 /// Appends an attribute.
-#[tactic(auto, using(crate::proofs::GrewLaws::grew_laws))]
 pub fn put_attr(out: &mut Bytes, a: &AttrTree) -> Result<(), NoMemory>
     ensures ok { OnOk result (out.new ≡ out.old ++ attr_text a.now) }
     ensures err { OnErr result (out.new ≡ out.old) }
@@ -34,7 +35,6 @@ pub fn put_attr(out: &mut Bytes, a: &AttrTree) -> Result<(), NoMemory>
 }
 
 /// Appends the entries of a dictionary, without what stands round them.
-#[tactic(auto, using(crate::proofs::GrewLaws::grew_laws))]
 pub fn put_dict(out: &mut Bytes, entries: &[(Name, AttrTree)]) -> Result<(), NoMemory>
     ensures ok { OnOk result (out.new ≡ out.old ++ dict_text entries.now) }
     ensures err { OnErr result (out.new ≡ out.old) }
@@ -160,7 +160,6 @@ fn is_bit(t: &TypeTree) -> bool
     }
 }
 
-#[tactic(auto, using(crate::proofs::GrewLaws::grew_laws))]
 fn add_integer(out: &mut Bytes, value: i64, t: &TypeTree) -> Result<(), NoMemory>
     ensures ok { OnOk result (out.new ≡ out.old ++ integer_text value t.now) }
     ensures grew { Grew out.old out.new }
@@ -173,7 +172,6 @@ fn add_integer(out: &mut Bytes, value: i64, t: &TypeTree) -> Result<(), NoMemory
     add_type(out, false, t)
 }
 
-#[tactic(auto, using(crate::proofs::GrewLaws::grew_laws))]
 fn add_bit(out: &mut Bytes, value: i64) -> Result<(), NoMemory>
     ensures ok { OnOk result (out.new ≡ out.old ++ bit_text value) }
     ensures grew { Grew out.old out.new }
@@ -184,7 +182,6 @@ fn add_bit(out: &mut Bytes, value: i64) -> Result<(), NoMemory>
     add(out, b"true")
 }
 
-#[tactic(auto, using(crate::proofs::GrewLaws::grew_laws))]
 fn add_numbers(out: &mut Bytes, numbers: &[i64]) -> Result<(), NoMemory>
     ensures ok { OnOk result (out.new ≡ out.old ++ numbers_text numbers.now) }
     ensures grew { Grew out.old out.new }
@@ -200,7 +197,6 @@ fn add_numbers(out: &mut Bytes, numbers: &[i64]) -> Result<(), NoMemory>
     Ok(())
 }
 
-#[tactic(auto, using(crate::proofs::GrewLaws::grew_laws))]
 fn add_words(out: &mut Bytes, words: &[Name]) -> Result<(), NoMemory>
     ensures ok { OnOk result (out.new ≡ out.old ++ words_text words.now) }
     ensures grew { Grew out.old out.new }
@@ -213,7 +209,6 @@ fn add_words(out: &mut Bytes, words: &[Name]) -> Result<(), NoMemory>
     Ok(())
 }
 
-#[tactic(auto, using(crate::proofs::GrewLaws::grew_laws))]
 fn add_joined(out: &mut Bytes, words: &[Name]) -> Result<(), NoMemory>
     ensures ok { OnOk result (out.new ≡ out.old ++ joined (codes ", ") words.now) }
     ensures grew { Grew out.old out.new }

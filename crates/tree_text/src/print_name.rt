@@ -1,4 +1,6 @@
 //! Prints strings and names.
+#![tactic(auto, using(crate::proofs::GrewLaws::grew_laws))]
+
 ghost use Rattle.std.specs.Prelude.{◌≡◌, ◌<◌, ◌++◌, OnOk, OnErr, flat_map};
 ghost use Rattle.tree_text.specs.Grew.{Grew};
 ghost use Rattle.tree_text.specs.NameText.{hex_digit, stands_plain, byte_text, string_text, name_text};
@@ -20,7 +22,6 @@ fn stands_plain(b: u8) -> bool
     32 <= b && b <= 126 && b != b'"'
 }
 
-#[tactic(auto, using(crate::proofs::GrewLaws::grew_laws))]
 fn add_string_byte(out: &mut Bytes, b: u8) -> Result<(), NoMemory>
     ensures ok { OnOk result (out.new ≡ out.old ++ byte_text b) }
     ensures grew { Grew out.old out.new }
@@ -34,7 +35,6 @@ fn add_string_byte(out: &mut Bytes, b: u8) -> Result<(), NoMemory>
     add(out, &[b'\\', hex_digit(b / 16), hex_digit(b % 16)])
 }
 
-#[tactic(auto, using(crate::proofs::GrewLaws::grew_laws))]
 fn add_string_bytes(out: &mut Bytes, bytes: &[u8]) -> Result<(), NoMemory>
     ensures ok { OnOk result (out.new ≡ out.old ++ flat_map byte_text bytes.now) }
     ensures grew { Grew out.old out.new }
@@ -45,7 +45,6 @@ fn add_string_bytes(out: &mut Bytes, bytes: &[u8]) -> Result<(), NoMemory>
     Ok(())
 }
 
-#[tactic(auto, using(crate::proofs::GrewLaws::grew_laws))]
 pub fn add_string(out: &mut Bytes, bytes: &[u8]) -> Result<(), NoMemory>
     ensures ok { OnOk result (out.new ≡ out.old ++ string_text bytes.now) }
     ensures grew { Grew out.old out.new }
@@ -55,7 +54,6 @@ pub fn add_string(out: &mut Bytes, bytes: &[u8]) -> Result<(), NoMemory>
     add(out, b"\"")
 }
 
-#[tactic(auto, using(crate::proofs::GrewLaws::grew_laws))]
 pub fn add_name(out: &mut Bytes, name: &[u8]) -> Result<(), NoMemory>
     ensures ok { OnOk result (out.new ≡ out.old ++ name_text name.now) }
     ensures grew { Grew out.old out.new }
@@ -67,7 +65,6 @@ pub fn add_name(out: &mut Bytes, name: &[u8]) -> Result<(), NoMemory>
 }
 
 /// Appends a text as a string.
-#[tactic(auto, using(crate::proofs::GrewLaws::grew_laws))]
 pub fn put_string(out: &mut Bytes, bytes: &[u8]) -> Result<(), NoMemory>
     ensures ok { OnOk result (out.new ≡ out.old ++ string_text bytes.now) }
     ensures err { OnErr result (out.new ≡ out.old) }
@@ -81,7 +78,6 @@ pub fn put_string(out: &mut Bytes, bytes: &[u8]) -> Result<(), NoMemory>
 }
 
 /// Appends a name: itself where it is a bare identifier, else as a string.
-#[tactic(auto, using(crate::proofs::GrewLaws::grew_laws))]
 pub fn put_name(out: &mut Bytes, name: &[u8]) -> Result<(), NoMemory>
     ensures ok { OnOk result (out.new ≡ out.old ++ name_text name.now) }
     ensures err { OnErr result (out.new ≡ out.old) }

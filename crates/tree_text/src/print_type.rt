@@ -1,8 +1,9 @@
 //! Prints types.
+#![tactic(auto, using(crate::proofs::GrewLaws::grew_laws))]
+
 ghost use Rattle.std.specs.Prelude.{◌≡◌, ◌++◌, IfOk, OnOk, OnErr, true, map, flat_map, codes};
 ghost use Rattle.std.specs.Fmt.{decimal};
 ghost use Rattle.tree_text.specs.Grew.{Grew};
-ghost use Rattle.tree_text.specs.Joined.{led_by};
 ghost use Rattle.tree_text.specs.TypeText.{printed, text_at, llvm_lead, listed, results_at, dim_text, type_text, types_text};
 
 use crate::grow::{add, add_number};
@@ -29,7 +30,6 @@ pub fn is_function(t: &TypeTree) -> bool
 }
 
 /// Appends a type.
-#[tactic(auto, using(crate::proofs::GrewLaws::grew_laws))]
 pub fn put_type(out: &mut Bytes, t: &TypeTree) -> Result<(), NoMemory>
     ensures ok { OnOk result (out.new ≡ out.old ++ type_text t.now) }
     ensures err { OnErr result (out.new ≡ out.old) }
@@ -43,7 +43,6 @@ pub fn put_type(out: &mut Bytes, t: &TypeTree) -> Result<(), NoMemory>
 }
 
 /// Appends types in parentheses.
-#[tactic(auto, using(crate::proofs::GrewLaws::grew_laws))]
 pub fn put_types(out: &mut Bytes, types: &[TypeTree]) -> Result<(), NoMemory>
     ensures ok { OnOk result (out.new ≡ out.old ++ types_text types.now) }
     ensures err { OnErr result (out.new ≡ out.old) }
@@ -162,7 +161,6 @@ fn add_last_types(out: &mut Bytes, types: &[TypeTree]) -> Result<(), NoMemory>
     add(out, b">")
 }
 
-#[tactic(auto, using(crate::proofs::GrewLaws::grew_laws))]
 fn add_llvm(out: &mut Bytes, inside: bool, text: &[u8]) -> Result<(), NoMemory>
     ensures ok { OnOk result (out.new ≡ out.old ++ (llvm_lead inside ++ text.now)) }
     ensures grew { Grew out.old out.new }
@@ -173,7 +171,6 @@ fn add_llvm(out: &mut Bytes, inside: bool, text: &[u8]) -> Result<(), NoMemory>
     add(out, text)
 }
 
-#[tactic(auto, using(crate::proofs::GrewLaws::grew_laws))]
 fn add_length(out: &mut Bytes, length: u64) -> Result<(), NoMemory>
     ensures ok { OnOk result (out.new ≡ out.old ++ (decimal length ++ codes " x ")) }
     ensures grew { Grew out.old out.new }
@@ -182,7 +179,6 @@ fn add_length(out: &mut Bytes, length: u64) -> Result<(), NoMemory>
     add(out, b" x ")
 }
 
-#[tactic(auto, using(crate::proofs::GrewLaws::grew_laws))]
 fn add_dims(out: &mut Bytes, dims: &[Dim]) -> Result<(), NoMemory>
     ensures ok { OnOk result (out.new ≡ out.old ++ flat_map dim_text dims.now) }
     ensures grew { Grew out.old out.new }
@@ -193,7 +189,6 @@ fn add_dims(out: &mut Bytes, dims: &[Dim]) -> Result<(), NoMemory>
     Ok(())
 }
 
-#[tactic(auto, using(crate::proofs::GrewLaws::grew_laws))]
 fn add_dim(out: &mut Bytes, dim: Dim) -> Result<(), NoMemory>
     ensures ok { OnOk result (out.new ≡ out.old ++ dim_text dim) }
     ensures grew { Grew out.old out.new }
