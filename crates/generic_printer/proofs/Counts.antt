@@ -1,5 +1,5 @@
 -- The counters of a walk come to the counts of the definition.
-use Rattle.std.proofs.Common.{◌≡◌, ℕ, ◌+◌, ◌==◌, Bool, true, false, cond, ◌||◌, List, [], ◌∷◌, ◌++◌, Option, Some, None, refl, sym, ap, ◌∙◌, subst, append_assoc, add-zero}
+use Rattle.std.proofs.Common.{◌≡◌, ℕ, ◌+◌, ◌==◌, Bool, true, false, cond, ◌||◌, List, [], ◌∷◌, ◌++◌, Option, Some, None, refl, sym, ap, ◌∙◌, append_assoc, add-zero}
 use Rattle.std.specs.Prelude.{is_some, option_map, option_and_then, flat_map, find, position, count_by}
 use Rattle.std.specs.Option.{option_or}
 use Rattle.std.specs.List.{list_any, position_from}
@@ -14,7 +14,7 @@ use Rattle.tree_model.specs.declared.op_tree.OpTree.{OpTree}
 use Rattle.text_model.specs.declared.value_name.ValueName.{ValueName}
 use Rattle.text_model.specs.declared.value_name.ValueName.TheVariants.{Argument, Single, Part}
 use Rattle.text_model.specs.PrintedPlaces.{Place, argument_at, single_at, group_at, successor_at, block_at, places_of_op}
-use Rattle.text_model.specs.PrintedNames.{Names, defines, values_at, places_before, is_argument, is_other, name_at, value_name, defined_type, label_position, names_label, names_along, names_of, blocks_at}
+use Rattle.text_model.specs.PrintedNames.{Names, defines, values_at, places_before, is_argument, is_other, name_at, value_name, names_label, names_along, names_of, blocks_at}
 use Rattle.generic_printer.specs.Counters.{Counters, at_start, with_first, with_name, with_parts, with_place, with_places}
 
 -- what the counts are behind some places
@@ -111,8 +111,8 @@ name_more q before [] p =
     elim (defines q p) as (λ b. option_and_then (name_at q (before ++ cond b [] (p ∷ []))) (cond b (Some p) None) ≡ cond b (name_at q (before ++ []) p) None) [ true ↦ refl | false ↦ refl ]
 name_more q before (x ∷ xs) p =
     elim (defines q x) as (λ b. option_and_then (name_at q (before ++ cond b [] (x ∷ places_before q (xs ++ p ∷ [])))) (cond b (Some x) (find (defines q) (xs ++ p ∷ [])))
-        ≡ cond (b || list_any (defines q) xs) (option_and_then (name_at q (before ++ cond b [] (x ∷ places_before q xs))) (cond b (Some x) (find (defines q) xs))) (cond (defines q p) (name_at q (before ++ x ∷ xs) p) None))
-      [ true ↦ refl | false ↦ simp append_assoc at (name_more q (before ++ x ∷ []) xs p) ]
+    ≡ cond (b || list_any (defines q) xs) (option_and_then (name_at q (before ++ cond b [] (x ∷ places_before q xs))) (cond b (Some x) (find (defines q) xs))) (cond (defines q p) (name_at q (before ++ x ∷ xs) p) None))
+    [ true ↦ refl | false ↦ simp append_assoc at (name_more q (before ++ x ∷ []) xs p) ]
 
 -- a place that defines a value names it
 named_here : (q : ℕ) (before : List Place) (p : Place) → defines q p ≡ true → is_some (name_at q before p) ≡ true
@@ -144,14 +144,14 @@ parts_name n number k [] q = sym (or_none (n.name q))
 parts_name n number k (v ∷ vs) q =
     parts_name (with_name n v (Part number k)) number (k + 1) vs q
     ∙ (ap (λ o. option_or o (option_map (Part number) (position_from (λ v. v.0 == q) (k + 1) vs))) (first_is n.name v.0 (Part number k) q)
-      ∙ or_mapped (n.name q) (v.0 == q) (Part number) k (position_from (λ v. v.0 == q) (k + 1) vs))
+    ∙ or_mapped (n.name q) (v.0 == q) (Part number) k (position_from (λ v. v.0 == q) (k + 1) vs))
 
 parts_type : (n : Names) (number k : ℕ) (vs : List (ℕ × TypeTree)) (q : ℕ) → (with_parts n number k vs).type_of q ≡ option_or (n.type_of q) (option_map (λ v. v.1) (find (λ v. v.0 == q) vs))
 parts_type n number k [] q = sym (or_none (n.type_of q))
 parts_type n number k (v ∷ vs) q =
     parts_type (with_name n v (Part number k)) number (k + 1) vs q
     ∙ (ap (λ o. option_or o (option_map (λ v. v.1) (find (λ v. v.0 == q) vs))) (first_is n.type_of v.0 v.1 q)
-      ∙ or_mapped (n.type_of q) (v.0 == q) (λ (w : ℕ × TypeTree). w.1) v (find (λ v. v.0 == q) vs))
+    ∙ or_mapped (n.type_of q) (v.0 == q) (λ (w : ℕ × TypeTree). w.1) v (find (λ v. v.0 == q) vs))
 
 parts_position : (n : Names) (number k : ℕ) (vs : List (ℕ × TypeTree)) (q : ℕ) → (with_parts n number k vs).position q ≡ n.position q
 parts_position n number k [] q = refl
@@ -187,9 +187,9 @@ one_name : (xs : List Place) (p : Place) (v : ℕ × TypeTree) (name : ValueName
 one_name xs p v name q e f =
     first_is (value_name xs) v.0 name q
     ∙ sym (name_push xs p q
-      ∙ (ap (λ l. option_or (value_name xs q) (cond (list_any (λ v. v.0 == q) l) (name_at q xs p) None)) e
-        ∙ (ap (λ o. option_or (value_name xs q) (cond (v.0 == q || false) o None)) f
-          ∙ ap (option_or (value_name xs q)) (cond_or_false (v.0 == q) (Some name) None))))
+    ∙ (ap (λ l. option_or (value_name xs q) (cond (list_any (λ v. v.0 == q) l) (name_at q xs p) None)) e
+    ∙ (ap (λ o. option_or (value_name xs q) (cond (v.0 == q || false) o None)) f
+    ∙ ap (option_or (value_name xs q)) (cond_or_false (v.0 == q) (Some name) None))))
 
 group_name : (xs : List Place) (vs : List (ℕ × TypeTree)) (q : ℕ) → (with_parts (names_along xs) (count_by is_other xs) 0 vs).name q ≡ value_name (xs ++ group_at vs ∷ []) q
 group_name xs vs q =
@@ -197,9 +197,9 @@ group_name xs vs q =
     let t = λ (v : ℕ × TypeTree). v.0 == q in
     parts_name (names_along xs) (count_by is_other xs) 0 vs q
     ∙ (ap (λ o. option_or (value_name xs q) (option_map part o)) (sym (position_from-zero t vs))
-      ∙ sym (name_push xs (group_at vs) q
-        ∙ (ap (λ b. option_or (value_name xs q) (cond b (option_map part (position t vs)) None)) (sym (stands t vs))
-          ∙ ap (option_or (value_name xs q)) (cond_mapped part (position t vs)))))
+    ∙ sym (name_push xs (group_at vs) q
+    ∙ (ap (λ b. option_or (value_name xs q) (cond b (option_map part (position t vs)) None)) (sym (stands t vs))
+    ∙ ap (option_or (value_name xs q)) (cond_mapped part (position t vs)))))
 
 target_kept : (xs : List Place) (p : Place) (q : ℕ) → names_label q p ≡ false → list_any (names_label q) xs ≡ list_any (names_label q) (xs ++ p ∷ [])
 target_kept xs p q e = sym (list_any-append (names_label q) xs (p ∷ []) ∙ (ap (λ b. list_any (names_label q) xs || (b || false)) e ∙ or_false (list_any (names_label q) xs)))

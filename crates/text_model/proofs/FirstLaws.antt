@@ -1,5 +1,5 @@
 -- The grammar of first texts keeps the laws, a production at a time.
-use Rattle.std.proofs.Common.{◌≡◌, Bool, true, false, List, [], ◌∷◌, refl}
+use Rattle.std.proofs.Common.{refl}
 use Rattle.grammar_model.specs.Reads.{IsSyntax}
 use Rattle.grammar_model.proofs.Laws.{token_laws, then_laws, mapped_laws, maybe_laws, or_laws}
 use Rattle.grammar_model.proofs.Many.{many_laws, parted_laws, listed_laws}

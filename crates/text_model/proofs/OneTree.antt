@@ -1,11 +1,9 @@
 -- A first text denotes one module.
-use Rattle.std.proofs.Common.{◌≡◌, ℕ, Bool, true, List, Option, None, refl, sym, ap, ◌∙◌, subst}
+use Rattle.std.proofs.Common.{◌≡◌, ℕ, List, None, sym, ap, ◌∙◌, subst}
 use Rattle.mlir_lex.specs.declared.Token.{Token}
 use Rattle.mlir_lex.proofs.Once.{lexes_once}
 use Rattle.tree_model.specs.declared.op_tree.ModuleTree.{ModuleTree}
-use Rattle.grammar_model.specs.Syntax.{Syntax}
 use Rattle.grammar_model.proofs.Whole.{one_reading}
-use Rattle.text_model.specs.declared.first.FirstFunc.{FirstFunc}
 use Rattle.text_model.specs.FirstWords.{words_of}
 use Rattle.text_model.specs.FirstGrammar.{file}
 use Rattle.text_model.specs.FirstNames.{module_tree}

@@ -1,7 +1,7 @@
 -- Fixed phrases keep the laws of grammars.
-use Rattle.std.proofs.Common.{◌≡◌, ℕ, Bool, true, false, List, [], ◌∷◌, Option, Some, None, Result, Ok, Err, refl, sym, ap, ◌∙◌}
+use Rattle.std.proofs.Common.{◌≡◌, Bool, true, false, List, [], ◌∷◌, Result, Ok, Err, refl, ◌∙◌}
 use Rattle.grammar_model.specs.Sets.{none_both, Apart, HasEvery}
-use Rattle.grammar_model.specs.Syntax.{Syntax, token, token_at, ◌then◌, mapped, ◌▸◌, ◌◂◌, ◌>>=◌}
+use Rattle.grammar_model.specs.Syntax.{token_at, ◌◂◌, ◌>>=◌}
 use Rattle.grammar_model.specs.Reads.{IsSyntax}
 use Rattle.grammar_model.proofs.Sets.{apart_by}
 use Rattle.grammar_model.proofs.Laws.{reread}

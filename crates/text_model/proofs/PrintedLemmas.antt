@@ -1,5 +1,5 @@
 -- The names and the printed text of an operation, part by part.
-use Rattle.std.proofs.Common.{◌≡◌, List, [], ◌∷◌, ℕ, ◌++◌, map, ap, refl}
+use Rattle.std.proofs.Common.{◌≡◌, List, ℕ, ◌++◌, map, ap}
 use Rattle.std.specs.Prelude.{codes, flat_map}
 use Rattle.std.proofs.lemmas.Grind.{common_steps}
 use Rattle.tree_model.specs.declared.op_tree.BlockTree.{BlockTree, out-BlockTree, fold_out-BlockTree, the_lemmas}

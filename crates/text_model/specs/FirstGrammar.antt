@@ -1,6 +1,6 @@
 -- The grammar of first texts, over words: a line here for each of its lines.
 use Rattle.std.specs.Prelude.{Bool, ◌||◌, is_some, List, [], ◌∷◌, Option, Some, None}
-use Rattle.grammar_model.specs.Syntax.{Syntax, token, ◌then◌, mapped, maybe, ◌or◌, many, parted, listed}
+use Rattle.grammar_model.specs.Syntax.{token, ◌then◌, mapped, maybe, ◌or◌, many, parted, listed}
 use Rattle.text_model.specs.declared.first.FirstKind.{FirstKind}
 use Rattle.text_model.specs.declared.first.FirstKind.TheVariants as kind
 use Rattle.text_model.specs.declared.first.Word.{Word}

@@ -1,9 +1,8 @@
 -- First texts: the texts of modules whose functions take and give i32 and are made of constants and additions.
-use Rattle.std.specs.Prelude.{◌≡◌, ℕ, Bool, true, List, Option, None}
+use Rattle.std.specs.Prelude.{◌≡◌, ℕ, true, List, None}
 use Rattle.mlir_lex.specs.declared.Token.{Token}
 use Rattle.mlir_lex.specs.Text.{Lexes}
 use Rattle.tree_model.specs.declared.op_tree.ModuleTree.{ModuleTree}
-use Rattle.grammar_model.specs.Syntax.{Syntax}
 use Rattle.text_model.specs.declared.first.FirstFunc.{FirstFunc}
 use Rattle.text_model.specs.FirstWords.{words_of}
 use Rattle.text_model.specs.FirstGrammar.{file}

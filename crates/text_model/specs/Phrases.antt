@@ -1,6 +1,6 @@
 -- Grammars over words, and fixed phrases in them.
-use Rattle.std.specs.Prelude.{◌≡◌, ℕ, ◌==◌, Bool, true, false, List, [], ◌∷◌, Option, Some, None, Result, Ok, Err}
-use Rattle.grammar_model.specs.Syntax.{Syntax, token, token_at, ◌then◌, mapped, ◌▸◌, ◌◂◌, ◌>>=◌}
+use Rattle.std.specs.Prelude.{ℕ, ◌==◌, Bool, List, [], ◌∷◌, Result, Ok}
+use Rattle.grammar_model.specs.Syntax.{Syntax, token_at, ◌▸◌, ◌◂◌, ◌>>=◌}
 use Rattle.text_model.specs.declared.first.FirstKind.{FirstKind}
 use Rattle.text_model.specs.declared.first.FirstKind.TheVariants.{Module, Func, Constant, Sum, Return, NameText, FunctionType, SymName, ValueKey, OverflowFlags, NoneFlag, I32, OverflowAttr, ValueName, Label, Digits, Open, Close, OpenBrace, CloseBrace, Less, Greater, Comma, Colon, Equals, Minus, Arrow, Other}
 use Rattle.text_model.specs.declared.first.Word.{Word}

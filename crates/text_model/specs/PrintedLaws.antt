@@ -1,5 +1,5 @@
 -- Laws of the printed text, each by an example that is written out.
-use Rattle.std.specs.Prelude.{◌≡◌, ℕ, Bool, true, false, List, [], ◌∷◌, ◌++◌, map, Some, codes}
+use Rattle.std.specs.Prelude.{◌≡◌, ℕ, false, List, [], ◌∷◌, ◌++◌, map, Some, codes}
 use Rattle.tree_model.specs.declared.type_tree.TypeTree.{TypeTree}
 use Rattle.text_model.specs.declared.value_name.ValueName.TheVariants.{Argument, Single, Part}
 use Rattle.text_model.specs.PrintedPlaces.{Place, BlockPlaces, block_places, op_places, region_places, successor_at}
@@ -44,7 +44,7 @@ nested_func t =
 abbrev pub NamesOfAFunction : Type 0
 NamesOfAFunction =
     (t : TypeTree) → map (value_name (nested_func t)) (1 ∷ 2 ∷ 3 ∷ 4 ∷ 5 ∷ 6 ∷ 7 ∷ 8 ∷ 9 ∷ [])
-      ≡ map (λ name. Some name) (Argument 0 ∷ Argument 1 ∷ Part 0 0 ∷ Part 0 1 ∷ Single 1 ∷ Argument 2 ∷ Single 2 ∷ Single 3 ∷ Single 4 ∷ [])
+    ≡ map (λ name. Some name) (Argument 0 ∷ Argument 1 ∷ Part 0 0 ∷ Part 0 1 ∷ Single 1 ∷ Argument 2 ∷ Single 2 ∷ Single 3 ∷ Single 4 ∷ [])
 
 -- its blocks are `^bb0`, and in the inner region `^bb0` and `^bb1`
 abbrev pub LabelsOfAFunction : Type 0
@@ -55,7 +55,7 @@ LabelsOfAFunction =
 abbrev pub UsesOfAGroup : Type 0
 UsesOfAGroup =
     (t : TypeTree) → let names = names_along (nested_func t) in
-      (results_lead names ((3, t) ∷ (4, t) ∷ []) ≡ codes "%0:2 = ") × (operands_text names (2 ∷ 3 ∷ 4 ∷ []) ≡ codes "(%arg1, %0#0, %0#1)")
+    (results_lead names ((3, t) ∷ (4, t) ∷ []) ≡ codes "%0:2 = ") × (operands_text names (2 ∷ 3 ∷ 4 ∷ []) ≡ codes "(%arg1, %0#0, %0#1)")
 
 -- a region of two blocks in an operation that stands two blanks in: the first label is shown only
 -- where an operation names it

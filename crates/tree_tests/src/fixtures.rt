@@ -8,8 +8,8 @@ use sqlite_items::Items;
 use std::alloc::Global;
 use tree_model::{
     AttrTree, BlockTree, Bytes, DictTree, NoMemory, OpTree, RegionTree, TypeTree, ValueList,
-    put_dict, put_type,
 };
+use tree_text::{put_dict, put_type};
 
 pub fn text(alloc: Global, bytes: &[u8]) -> Result<Bytes, NoMemory>
     ensures { IfOk result (λ b. b ≡ bytes.now) }
@@ -102,7 +102,7 @@ fn put_values(out: &mut Bytes, values: &ValueList) -> Result<(), NoMemory> {
     for value in values.as_slice() {
         out.put_number(u64::from(value.0))?;
         out.put(b":")?;
-        put_type(out, false, &value.1)?;
+        put_type(out, &value.1)?;
         out.put(b" ")?;
     }
     Ok(())

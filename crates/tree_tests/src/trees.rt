@@ -7,8 +7,9 @@ use std::process::Abort;
 use std::test::Fail;
 use tree_model::{
     AttrTree, BlockTree, Dim, FuncTree, ModuleTree, NoMemory, OpTree, RegionTree, TypeTree,
-    attr_text, copy_attr, copy_module, copy_type, same_attr, same_type, type_text,
+    copy_attr, copy_module, copy_type, same_attr, same_type,
 };
+use tree_text::{attr_text, type_text};
 
 /// `(memref<2x?xi32>) -> (!llvm.struct<(ptr, array<3 x i8>)>, index)`
 fn sample_type(alloc: Global) -> Result<TypeTree, NoMemory> {
