@@ -19,5 +19,5 @@ none_at p q zero (j ∷ ks) k found none hp hq =
 none_at p q (suc n) (j ∷ ks) k found none hp hq = none_at p q n ks k found (none_later (p j) (q j) (none_both p q ks) none) hp hq
 
 -- over a list of every kind the test decides it
-pub apart_by : {K : Type 0} (place : K → ℕ) (every : List K) → HasEvery place every → (p q : K → Bool) → none_both p q every ≡ true → Apart p q
-apart_by place every all p q none = λ k. none_at p q (place k) every k (all k) none
+pub apart_by : {K : Type 0} (every : List K) → HasEvery every → (p q : K → Bool) → none_both p q every ≡ true → Apart p q
+apart_by every all p q none = λ k. let (place, there) = all k in none_at p q place every k there none

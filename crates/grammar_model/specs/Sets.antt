@@ -21,6 +21,6 @@ at_place n [] = None
 at_place zero (k ∷ ks) = Some k
 at_place (suc n) (k ∷ ks) = at_place n ks
 
--- the list has every kind, each at its place
-abbrev pub HasEvery : {K : Type 0} → (K → ℕ) → List K → Type 0
-HasEvery {K = K} place every = (k : K) → at_place (place k) every ≡ Some k
+-- the list has every kind
+abbrev pub HasEvery : {K : Type 0} → List K → Type 0
+HasEvery {K = K} every = (k : K) → (place : ℕ) × (at_place place every ≡ Some k)

@@ -1,5 +1,5 @@
 -- The grammar keeps the laws.
-use Rattle.std.proofs.Common.{◌≡◌, ℕ, Bool, true, List, [], ◌∷◌, refl}
+use Rattle.std.proofs.Common.{◌≡◌, Bool, true, List, [], ◌∷◌, refl}
 use Rattle.grammar_model.specs.Sets.{none_both, Apart, HasEvery}
 use Rattle.grammar_model.specs.Reads.{IsSyntax}
 use Rattle.grammar_model.proofs.Sets.{apart_by}
@@ -24,59 +24,34 @@ every = Module ∷ OnEach FuncFunc ∷ OnEach LlvmFunc ∷ Pass ConvertScfToCf �
     ∷ Pass FinalizeMemrefToLlvm ∷ Pass ReconcileUnrealizedCasts ∷ Pass FullConvertToLlvm ∷ Width ∷ Zero ∷ SixtyFour ∷ OtherWord ∷ Open ∷ Close ∷ OpenBrace ∷ CloseBrace
     ∷ Equals ∷ Comma ∷ OtherByte ∷ NoOption ∷ []
 
-place : Kind → ℕ
-place Module = 0
-place (OnEach FuncFunc) = 1
-place (OnEach LlvmFunc) = 2
-place (Pass ConvertScfToCf) = 3
-place (Pass ArithExpand) = 4
-place (Pass ConvertArithToLlvm) = 5
-place (Pass ConvertCfToLlvm) = 6
-place (Pass ConvertFuncToLlvm) = 7
-place (Pass FinalizeMemrefToLlvm) = 8
-place (Pass ReconcileUnrealizedCasts) = 9
-place (Pass FullConvertToLlvm) = 10
-place Width = 11
-place Zero = 12
-place SixtyFour = 13
-place OtherWord = 14
-place Open = 15
-place Close = 16
-place OpenBrace = 17
-place CloseBrace = 18
-place Equals = 19
-place Comma = 20
-place OtherByte = 21
-place NoOption = 22
-
-has_every : HasEvery place every
-unfolding place every
-has_every Module = refl
-has_every (OnEach FuncFunc) = refl
-has_every (OnEach LlvmFunc) = refl
-has_every (Pass ConvertScfToCf) = refl
-has_every (Pass ArithExpand) = refl
-has_every (Pass ConvertArithToLlvm) = refl
-has_every (Pass ConvertCfToLlvm) = refl
-has_every (Pass ConvertFuncToLlvm) = refl
-has_every (Pass FinalizeMemrefToLlvm) = refl
-has_every (Pass ReconcileUnrealizedCasts) = refl
-has_every (Pass FullConvertToLlvm) = refl
-has_every Width = refl
-has_every Zero = refl
-has_every SixtyFour = refl
-has_every OtherWord = refl
-has_every Open = refl
-has_every Close = refl
-has_every OpenBrace = refl
-has_every CloseBrace = refl
-has_every Equals = refl
-has_every Comma = refl
-has_every OtherByte = refl
-has_every NoOption = refl
+has_every : HasEvery every
+unfolding every
+has_every Module = (0, refl)
+has_every (OnEach FuncFunc) = (1, refl)
+has_every (OnEach LlvmFunc) = (2, refl)
+has_every (Pass ConvertScfToCf) = (3, refl)
+has_every (Pass ArithExpand) = (4, refl)
+has_every (Pass ConvertArithToLlvm) = (5, refl)
+has_every (Pass ConvertCfToLlvm) = (6, refl)
+has_every (Pass ConvertFuncToLlvm) = (7, refl)
+has_every (Pass FinalizeMemrefToLlvm) = (8, refl)
+has_every (Pass ReconcileUnrealizedCasts) = (9, refl)
+has_every (Pass FullConvertToLlvm) = (10, refl)
+has_every Width = (11, refl)
+has_every Zero = (12, refl)
+has_every SixtyFour = (13, refl)
+has_every OtherWord = (14, refl)
+has_every Open = (15, refl)
+has_every Close = (16, refl)
+has_every OpenBrace = (17, refl)
+has_every CloseBrace = (18, refl)
+has_every Equals = (19, refl)
+has_every Comma = (20, refl)
+has_every OtherByte = (21, refl)
+has_every NoOption = (22, refl)
 
 apart : (p q : Kind → Bool) → none_both p q every ≡ true → Apart p q
-apart p q none = apart_by place every has_every p q none
+apart p q none = apart_by every has_every p q none
 
 -- some token of a kind
 a : Kind → Token

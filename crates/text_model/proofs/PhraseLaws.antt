@@ -17,38 +17,38 @@ abbrev pub every : List FirstKind
 every = Module ∷ Func ∷ Constant ∷ Sum ∷ Return ∷ NameText ∷ FunctionType ∷ SymName ∷ ValueKey ∷ OverflowFlags ∷ NoneFlag ∷ I32 ∷ OverflowAttr ∷ ValueName ∷ Label ∷ Digits
     ∷ Open ∷ Close ∷ OpenBrace ∷ CloseBrace ∷ Less ∷ Greater ∷ Comma ∷ Colon ∷ Equals ∷ Minus ∷ Arrow ∷ Other ∷ []
 
-has_every : HasEvery place every
-has_every Module = refl
-has_every Func = refl
-has_every Constant = refl
-has_every Sum = refl
-has_every Return = refl
-has_every NameText = refl
-has_every FunctionType = refl
-has_every SymName = refl
-has_every ValueKey = refl
-has_every OverflowFlags = refl
-has_every NoneFlag = refl
-has_every I32 = refl
-has_every OverflowAttr = refl
-has_every ValueName = refl
-has_every Label = refl
-has_every Digits = refl
-has_every Open = refl
-has_every Close = refl
-has_every OpenBrace = refl
-has_every CloseBrace = refl
-has_every Less = refl
-has_every Greater = refl
-has_every Comma = refl
-has_every Colon = refl
-has_every Equals = refl
-has_every Minus = refl
-has_every Arrow = refl
-has_every Other = refl
+has_every : HasEvery every
+has_every Module = (place Module, refl)
+has_every Func = (place Func, refl)
+has_every Constant = (place Constant, refl)
+has_every Sum = (place Sum, refl)
+has_every Return = (place Return, refl)
+has_every NameText = (place NameText, refl)
+has_every FunctionType = (place FunctionType, refl)
+has_every SymName = (place SymName, refl)
+has_every ValueKey = (place ValueKey, refl)
+has_every OverflowFlags = (place OverflowFlags, refl)
+has_every NoneFlag = (place NoneFlag, refl)
+has_every I32 = (place I32, refl)
+has_every OverflowAttr = (place OverflowAttr, refl)
+has_every ValueName = (place ValueName, refl)
+has_every Label = (place Label, refl)
+has_every Digits = (place Digits, refl)
+has_every Open = (place Open, refl)
+has_every Close = (place Close, refl)
+has_every OpenBrace = (place OpenBrace, refl)
+has_every CloseBrace = (place CloseBrace, refl)
+has_every Less = (place Less, refl)
+has_every Greater = (place Greater, refl)
+has_every Comma = (place Comma, refl)
+has_every Colon = (place Colon, refl)
+has_every Equals = (place Equals, refl)
+has_every Minus = (place Minus, refl)
+has_every Arrow = (place Arrow, refl)
+has_every Other = (place Other, refl)
 
 pub apart : (p q : FirstKind → Bool) → none_both p q every ≡ true → Apart p q
-apart p q none = apart_by place every has_every p q none
+apart p q none = apart_by every has_every p q none
 
 -- some word of a kind
 abbrev pub a : FirstKind → Word
