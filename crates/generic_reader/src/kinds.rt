@@ -1,6 +1,6 @@
 //! The kind of each token.
 
-ghost use Rattle.std.specs.Prelude.{◌≡◌, codes, if◌then◌else◌};
+ghost use Rattle.std.specs.Prelude.{◌≡◌, ◌≢◌, [], ◌∷◌, length, codes, if◌then◌else◌};
 ghost use Rattle.std.specs.List.{list_all};
 ghost use Rattle.std.specs.Str.{bytes_eq};
 ghost use Rattle.mlir_lex.specs.Bytes.{is_digit};
@@ -70,41 +70,60 @@ fn bare_kind(piece: &[u8]) -> FirstKind
     }
 }
 
-#[tactic(auto, unfolding(text_model::specs::FirstWords::sign_kind))]
 fn sign_kind(piece: &[u8]) -> FirstKind
     ensures { result ≡ sign_kind piece.now }
 {
-    if same(piece, b"(") {
+    match piece {
+        [byte] => one_byte_sign(*byte),
+        _ => longer_sign(piece),
+    }
+}
+
+#[tactic(auto, unfolding(text_model::specs::FirstWords::sign_kind))]
+fn one_byte_sign(byte: u8) -> FirstKind
+    ensures { result ≡ sign_kind (byte ∷ []) }
+{
+    if byte == b'(' {
         FirstKind::Open
-    } else if same(piece, b")") {
+    } else if byte == b')' {
         FirstKind::Close
-    } else if same(piece, b":") {
+    } else if byte == b':' {
         FirstKind::Colon
-    } else if same(piece, b"=") {
+    } else if byte == b'=' {
         FirstKind::Equals
-    } else if same(piece, b"->") {
-        FirstKind::Arrow
-    } else if same(piece, b",") {
+    } else if byte == b',' {
         FirstKind::Comma
     } else {
-        bracket_kind(piece)
+        one_byte_bracket(byte)
     }
 }
 
 #[tactic(auto, unfolding(text_model::specs::FirstWords::bracket_kind))]
-fn bracket_kind(piece: &[u8]) -> FirstKind
-    ensures { result ≡ bracket_kind piece.now }
+fn one_byte_bracket(byte: u8) -> FirstKind
+    ensures { result ≡ bracket_kind (byte ∷ []) }
 {
-    if same(piece, b"<") {
+    if byte == b'<' {
         FirstKind::Less
-    } else if same(piece, b">") {
+    } else if byte == b'>' {
         FirstKind::Greater
-    } else if same(piece, b"{") {
+    } else if byte == b'{' {
         FirstKind::OpenBrace
-    } else if same(piece, b"}") {
+    } else if byte == b'}' {
         FirstKind::CloseBrace
-    } else if same(piece, b"-") {
+    } else if byte == b'-' {
         FirstKind::Minus
+    } else {
+        FirstKind::Other
+    }
+}
+
+#[tactic(auto, unfolding(text_model::specs::FirstWords::sign_kind, text_model::specs::FirstWords::bracket_kind))]
+fn longer_sign(piece: &[u8]) -> FirstKind
+    requires { length piece.now ≢ 1 }
+    ensures { result ≡ sign_kind piece.now }
+{
+    if same(piece, b"->") {
+        FirstKind::Arrow
     } else {
         FirstKind::Other
     }

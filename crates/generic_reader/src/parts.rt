@@ -3,7 +3,7 @@
 ghost use Rattle.std.specs.Prelude.{◌≡◌, ◌==◌, List, [], ◌∷◌};
 ghost use Rattle.grammar_model.specs.Syntax.{begins, token, many, mapped, maybe, parted, listed, with_front, ◌▸◌, ◌or◌};
 ghost use Rattle.grammar_model.specs.Stopping.{Gives};
-ghost use Rattle.text_model.specs.Phrases.{expects, is, kind_at, place};
+ghost use Rattle.text_model.specs.Phrases.{expects, is, kind_at};
 ghost use Rattle.text_model.specs.FirstGrammar.{is_name, or_no_words, value, name, argument, arguments, head, integer, constant, flags, pair, addition, line, ending};
 
 use grammar_model::Stop;
@@ -14,24 +14,10 @@ use text_model::first::{FirstKind, Line, Maker, Word};
 pub fn next_is(kind: FirstKind, words: &[Word]) -> bool
     ensures { result ≡ begins kind_at (is kind) words.now }
 {
-    match words.first() {
-        Some(first) => is_kind(kind, first.kind),
-        None => false,
+    match words {
+        [first, ..] => kind == first.kind,
+        [] => false,
     }
-}
-
-/// Whether a kind is the one that is wanted.
-fn is_kind(wanted: FirstKind, kind: FirstKind) -> bool
-    ensures { result ≡ is wanted kind }
-{
-    place(wanted) == place(kind)
-}
-
-/// The place of a kind in the list of all.
-fn place(kind: FirstKind) -> u8
-    ensures { result ≡ place kind }
-{
-    kind as u8
 }
 
 /// The next word, if it is of this kind.
@@ -39,7 +25,7 @@ pub fn take(kind: FirstKind, words: &[Word]) -> Result<(Word, &[Word]), Stop<'_,
     ensures { Gives (λ x. (x.0, x.1.now)) result ((token {kind = kind_at} (is kind)).read words.now) }
 {
     match words.split_first() {
-        Some((first, rest)) if is_kind(kind, first.kind) => Ok((*first, rest)),
+        Some((first, rest)) if kind == first.kind => Ok((*first, rest)),
         _ => Err(Stop::At(words)),
     }
 }
@@ -67,12 +53,12 @@ fn read_value(words: &[Word]) -> Result<(Word, &[Word]), Stop<'_, Word>>
 fn is_name(kind: FirstKind) -> bool
     ensures { result ≡ is_name kind }
 {
-    is_kind(FirstKind::NameText, kind)
-        || is_kind(FirstKind::Module, kind)
-        || is_kind(FirstKind::Func, kind)
-        || is_kind(FirstKind::Constant, kind)
-        || is_kind(FirstKind::Sum, kind)
-        || is_kind(FirstKind::Return, kind)
+    kind == FirstKind::NameText
+        || kind == FirstKind::Module
+        || kind == FirstKind::Func
+        || kind == FirstKind::Constant
+        || kind == FirstKind::Sum
+        || kind == FirstKind::Return
 }
 
 #[tactic(auto, unfolding(text_model::specs::FirstGrammar::name))]
