@@ -11,7 +11,8 @@ use sqlite_items::Items;
 use std::alloc::Global;
 use std::test::Fail;
 use tree_model::{
-    AttrTree, BlockTree, Bytes, FuncTree, ModuleTree, NoMemory, OpList, OpTree, TypeTree, ValueList,
+    AttrTree, BlockTree, Bytes, FuncTree, ModuleTree, Name, NoMemory, OpList, OpTree, TypeTree,
+    ValueList,
 };
 
 fn value(alloc: Global, n: u32) -> Result<ValueList, NoMemory>
@@ -31,8 +32,8 @@ fn constant(alloc: Global, n: u32, number: i64) -> Result<OpTree, NoMemory>
 fn sum(alloc: Global, n: u32, left: u32, right: u32) -> Result<OpTree, NoMemory>
     ensures { IfOk result (λ o. o ≡ op_of (Addition n left right (Some (codes "none" ∷ [])))) }
 {
-    let words = one(alloc, text(alloc, b"none")?)?;
-    let flags = AttrTree::Dialect(text(alloc, b"arith.overflow")?, words);
+    let words = one(alloc, Name::from_slice(alloc, b"none")?)?;
+    let flags = AttrTree::Dialect(Name::from_slice(alloc, b"arith.overflow")?, words);
     let props = entry(alloc, b"overflowFlags", flags)?;
     op_with(
         alloc,
@@ -63,7 +64,7 @@ fn func(alloc: Global, name: &[u8], ops: OpList) -> Result<FuncTree, NoMemory>
     let region = region(alloc, block)?;
     let name = AttrTree::Str(text(alloc, name)?);
     let op = OpTree {
-        name: text(alloc, b"func.func")?,
+        name: Name::from_slice(alloc, b"func.func")?,
         results: Items::new(alloc),
         operands: Items::new(alloc),
         props: entry(alloc, b"sym_name", name)?,

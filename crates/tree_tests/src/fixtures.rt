@@ -2,13 +2,12 @@
 
 ghost use Rattle.std.specs.Prelude.{◌≡◌, [], ◌∷◌, IfOk};
 ghost use Rattle.tree_model.specs.declared.op_tree.RegionTree.{roll-RegionTree};
-ghost use Rattle.lowering_model.specs.Trees.{plain_op as plain};
+ghost use Rattle.tree_model.specs.Makers.{plain_op as plain};
 
 use sqlite_items::Items;
 use std::alloc::Global;
-use tree_model::{
-    AttrTree, BlockTree, Bytes, DictTree, NoMemory, OpTree, RegionTree, TypeTree, ValueList,
-};
+pub use tree_model::{entry, one};
+use tree_model::{BlockTree, Bytes, DictTree, NoMemory, OpTree, RegionTree, TypeTree, ValueList};
 use tree_text::{put_dict, put_type};
 
 pub fn text(alloc: Global, bytes: &[u8]) -> Result<Bytes, NoMemory>
@@ -17,27 +16,12 @@ pub fn text(alloc: Global, bytes: &[u8]) -> Result<Bytes, NoMemory>
     Bytes::from_slice(alloc, bytes)
 }
 
-pub fn one<T: Drop>(alloc: Global, item: T) -> Result<Items<T>, NoMemory>
-    ensures { IfOk result (λ xs. xs ≡ item ∷ []) }
-{
-    let mut items = Items::new(alloc);
-    items.push(item)?;
-    Ok(items)
-}
-
 pub fn two<T: Drop>(alloc: Global, first: T, second: T) -> Result<Items<T>, NoMemory>
     ensures { IfOk result (λ xs. xs ≡ first ∷ second ∷ []) }
 {
     let mut items = one(alloc, first)?;
     items.push(second)?;
     Ok(items)
-}
-
-/// A dictionary of one entry.
-pub fn entry(alloc: Global, name: &[u8], value: AttrTree) -> Result<DictTree, NoMemory>
-    ensures { IfOk result (λ d. d ≡ (name.now, value) ∷ []) }
-{
-    one(alloc, (text(alloc, name)?, value))
 }
 
 /// Values with these numbers and integer types of these widths.
@@ -59,15 +43,8 @@ pub fn op_with(
 ) -> Result<OpTree, NoMemory>
     ensures { IfOk result (λ o. o ≡ plain name.now results operands.now props) }
 {
-    Ok(OpTree {
-        name: text(alloc, name)?,
-        results,
-        operands: Items::from_slice(alloc, operands)?,
-        props,
-        attrs: Items::new(alloc),
-        regions: Items::new(alloc),
-        successors: Items::new(alloc),
-    })
+    let operands = Items::from_slice(alloc, operands)?;
+    tree_model::plain_op(alloc, name, results, operands, props)
 }
 
 /// An operation with no dictionary, region or successor.

@@ -6,6 +6,8 @@ mod conversion;
 #[cfg(test)]
 mod fixtures;
 #[cfg(test)]
+mod names;
+#[cfg(test)]
 mod printing;
 #[cfg(test)]
 mod rows;

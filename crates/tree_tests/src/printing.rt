@@ -7,7 +7,7 @@ use std::alloc::Global;
 use std::process::Abort;
 use std::test::Fail;
 use tree_model::{
-    AttrTree, BlockTree, FuncTree, ModuleTree, NoMemory, OpTree, RegionTree, TypeTree,
+    AttrTree, BlockTree, FuncTree, ModuleTree, Name, NoMemory, OpTree, RegionTree, TypeTree,
 };
 
 fn module(alloc: Global, op: OpTree) -> Result<ModuleTree, NoMemory> {
@@ -49,8 +49,8 @@ fn constant(alloc: Global) -> Result<OpTree, NoMemory> {
 
 fn addition(alloc: Global) -> Result<OpTree, NoMemory> {
     let mut addition = op(alloc, b"arith.addi", &[(2, 32)], &[0, 1])?;
-    let words = one(alloc, text(alloc, b"none")?)?;
-    let flags = AttrTree::Dialect(text(alloc, b"arith.overflow")?, words);
+    let words = one(alloc, Name::from_slice(alloc, b"none")?)?;
+    let flags = AttrTree::Dialect(Name::from_slice(alloc, b"arith.overflow")?, words);
     addition.props = entry(alloc, b"overflowFlags", flags)?;
     Ok(addition)
 }
@@ -65,7 +65,7 @@ fn inc(alloc: Global) -> Result<OpTree, NoMemory> {
     let t = TypeTree::Func(inputs, one(alloc, TypeTree::Int(32))?);
     f.props = entry(alloc, b"function_type", AttrTree::OfType(t))?;
     f.props.push((
-        text(alloc, b"sym_name")?,
+        Name::from_slice(alloc, b"sym_name")?,
         AttrTree::Str(text(alloc, b"inc")?),
     ))?;
     f.regions = one(alloc, region(alloc, body)?)?;

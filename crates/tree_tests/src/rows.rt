@@ -7,7 +7,7 @@ use sqlite_items::{Boxed, Items};
 use std::alloc::Global;
 use std::process::Abort;
 use std::test::Fail;
-use tree_model::{AttrTree, Bytes, DictTree, Dim, NoMemory, OpTree, TypeTree};
+use tree_model::{AttrTree, Bytes, DictTree, Dim, Name, NoMemory, OpTree, TypeTree};
 
 /// An operation that defines value 7, with one attribute.
 fn op(
@@ -25,13 +25,17 @@ fn op(
 /// A constant, with another property beside its value.
 fn constant(alloc: Global, value: i64, of: TypeTree, made: TypeTree) -> Result<OpTree, NoMemory> {
     let mut props = entry(alloc, b"other", AttrTree::Unit)?;
-    props.push((text(alloc, b"value")?, AttrTree::Int(value, of)))?;
+    props.push((Name::from_slice(alloc, b"value")?, AttrTree::Int(value, of)))?;
     op(alloc, b"arith.constant", made, &[], props)
 }
 
 fn flags(alloc: Global, dialect: &[u8]) -> Result<DictTree, NoMemory> {
-    let words = two(alloc, text(alloc, b"nsw")?, text(alloc, b"nuw")?)?;
-    let flags = AttrTree::Dialect(text(alloc, dialect)?, words);
+    let words = two(
+        alloc,
+        Name::from_slice(alloc, b"nsw")?,
+        Name::from_slice(alloc, b"nuw")?,
+    )?;
+    let flags = AttrTree::Dialect(Name::from_slice(alloc, dialect)?, words);
     entry(alloc, b"overflowFlags", flags)
 }
 

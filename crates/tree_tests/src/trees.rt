@@ -6,8 +6,8 @@ use std::alloc::Global;
 use std::process::Abort;
 use std::test::Fail;
 use tree_model::{
-    AttrTree, BlockTree, Dim, FuncTree, ModuleTree, NoMemory, OpTree, RegionTree, TypeTree,
-    copy_attr, copy_module, copy_type, same_attr, same_type,
+    AttrTree, BlockTree, Dim, Name, NoMemory, OpTree, RegionTree, TypeTree, copy_attr, copy_op,
+    copy_type, same_attr, same_type,
 };
 use tree_text::{attr_text, type_text};
 
@@ -23,12 +23,15 @@ fn sample_type(alloc: Global) -> Result<TypeTree, NoMemory> {
 
 /// `[{"a b" = 5 : i64, u}, "x", #arith.overflow<nsw>, array<i32: 1, -2>, @f]`
 fn sample_attr(alloc: Global) -> Result<AttrTree, NoMemory> {
-    let five = (text(alloc, b"a b")?, AttrTree::Int(5, TypeTree::Int(64)));
-    let unit = (text(alloc, b"u")?, AttrTree::Unit);
+    let five = (
+        Name::from_slice(alloc, b"a b")?,
+        AttrTree::Int(5, TypeTree::Int(64)),
+    );
+    let unit = (Name::from_slice(alloc, b"u")?, AttrTree::Unit);
     let mut items = one(alloc, AttrTree::Dict(two(alloc, five, unit)?))?;
     items.push(AttrTree::Str(text(alloc, b"x")?))?;
-    let words = one(alloc, text(alloc, b"nsw")?)?;
-    items.push(AttrTree::Dialect(text(alloc, b"arith.overflow")?, words))?;
+    let words = one(alloc, Name::from_slice(alloc, b"nsw")?)?;
+    items.push(AttrTree::Dialect(Name::from_slice(alloc, b"arith.overflow")?, words))?;
     items.push(AttrTree::Ints(32, Items::from_slice(alloc, &[1, -2])?))?;
     items.push(AttrTree::Symbol(text(alloc, b"f")?))?;
     Ok(AttrTree::List(items))
@@ -41,7 +44,7 @@ fn op(
     operands: &[u32],
 ) -> Result<OpTree, NoMemory> {
     Ok(OpTree {
-        name: text(alloc, name)?,
+        name: Name::from_slice(alloc, name)?,
         results: one(alloc, (7, sample_type(alloc)?))?,
         operands: Items::from_slice(alloc, operands)?,
         props: entry(alloc, b"p", sample_attr(alloc)?)?,
@@ -51,7 +54,7 @@ fn op(
     })
 }
 
-fn sample_module(alloc: Global) -> Result<ModuleTree, NoMemory> {
+fn sample_op(alloc: Global) -> Result<OpTree, NoMemory> {
     let inner = op(alloc, b"test.inner", Items::new(alloc), &[1, 7])?;
     let block = BlockTree {
         label: 4,
@@ -61,12 +64,7 @@ fn sample_module(alloc: Global) -> Result<ModuleTree, NoMemory> {
     let region = RegionTree {
         blocks: one(alloc, block)?,
     };
-    let outer = op(alloc, b"func.func", one(alloc, region)?, &[])?;
-    Ok(ModuleTree {
-        props: entry(alloc, b"sym_name", AttrTree::Str(text(alloc, b"m")?))?,
-        attrs: entry(alloc, b"z", AttrTree::OfType(sample_type(alloc)?))?,
-        funcs: one(alloc, FuncTree { op: outer })?,
-    })
+    op(alloc, b"func.func", one(alloc, region)?, &[])
 }
 
 fn copies_type(rt: &impl Abort, alloc: Global) -> Result<(), NoMemory> {
@@ -85,14 +83,14 @@ fn copies_attr(rt: &impl Abort, alloc: Global) -> Result<(), NoMemory> {
     Ok(())
 }
 
-fn shape(alloc: Global, module: &ModuleTree) -> Result<String, NoMemory> {
-    format!(in alloc; "{module:?}")
+fn shape(alloc: Global, op: &OpTree) -> Result<String, NoMemory> {
+    format!(in alloc; "{op:?}")
 }
 
-fn copies_module(rt: &impl Abort, alloc: Global) -> Result<(), NoMemory> {
-    let module = sample_module(alloc)?;
-    let copy = copy_module(alloc, &module)?;
-    let want = shape(alloc, &module)?;
+fn copies_op(rt: &impl Abort, alloc: Global) -> Result<(), NoMemory> {
+    let op = sample_op(alloc)?;
+    let copy = copy_op(alloc, &op)?;
+    let want = shape(alloc, &op)?;
     let got = shape(alloc, &copy)?;
     assert_eq!(rt; got.as_str(), want.as_str());
     Ok(())
@@ -103,7 +101,7 @@ fn copies_are_what_they_copy(rt: HostRuntime) -> Result<(), Fail> {
     let alloc = rt.alloc();
     copies_type(&rt, alloc)?;
     copies_attr(&rt, alloc)?;
-    copies_module(&rt, alloc)?;
+    copies_op(&rt, alloc)?;
     Ok(())
 }
 
@@ -213,17 +211,24 @@ fn shows_lists(rt: &impl Abort, alloc: Global) -> Result<(), NoMemory> {
     let list = two(alloc, AttrTree::Unit, AttrTree::OfType(TypeTree::Ptr))?;
     shows_attr(rt, alloc, AttrTree::List(list), b"[unit, !llvm.ptr]")?;
     shows_attr(rt, alloc, AttrTree::Dict(Items::new(alloc)), b"{}")?;
-    let first = (text(alloc, b"a b")?, AttrTree::Int(1, TypeTree::Index));
-    let second = (text(alloc, b"c.d")?, AttrTree::Unit);
+    let first = (
+        Name::from_slice(alloc, b"a b")?,
+        AttrTree::Int(1, TypeTree::Index),
+    );
+    let second = (Name::from_slice(alloc, b"c.d")?, AttrTree::Unit);
     let entries = AttrTree::Dict(two(alloc, first, second)?);
     shows_attr(rt, alloc, entries, b"{\"a b\" = 1 : index, c.d}")
 }
 
 fn shows_dialect_attrs(rt: &impl Abort, alloc: Global) -> Result<(), NoMemory> {
-    let words = two(alloc, text(alloc, b"nsw")?, text(alloc, b"nuw")?)?;
-    let flags = AttrTree::Dialect(text(alloc, b"arith.overflow")?, words);
+    let words = two(
+        alloc,
+        Name::from_slice(alloc, b"nsw")?,
+        Name::from_slice(alloc, b"nuw")?,
+    )?;
+    let flags = AttrTree::Dialect(Name::from_slice(alloc, b"arith.overflow")?, words);
     shows_attr(rt, alloc, flags, b"#arith.overflow<nsw, nuw>")?;
-    let bare = AttrTree::Dialect(text(alloc, b"d.m")?, Items::new(alloc));
+    let bare = AttrTree::Dialect(Name::from_slice(alloc, b"d.m")?, Items::new(alloc));
     shows_attr(rt, alloc, bare, b"#d.m")?;
     let want = b"[{\"a b\" = 5 : i64, u}, \"x\", #arith.overflow<nsw>, array<i32: 1, -2>, @f]";
     shows_attr(rt, alloc, sample_attr(alloc)?, want)
