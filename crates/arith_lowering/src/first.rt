@@ -1,3 +1,5 @@
+//! The rows of arith as a set of patterns.
+
 ghost use Rattle.std.specs.Prelude.{◌≡◌, IfOk};
 ghost use Rattle.lowering_model.specs.ArithRows.{arith_row};
 

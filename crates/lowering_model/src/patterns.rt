@@ -1,3 +1,5 @@
+//! What a set of patterns answers.
+
 ghost use Rattle.std.specs.Prelude.{◌≡◌, IfOk, Option};
 ghost use Rattle.tree_model.specs.declared.op_tree.OpTree.{OpTree};
 

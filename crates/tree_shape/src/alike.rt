@@ -1,3 +1,5 @@
+//! Whether two functions are equal but for the numbers in them.
+
 ghost use Rattle.std.specs.Prelude.{◌≡◌, ◌↔◌, IsTrue, map};
 ghost use Rattle.tree_shape.specs.WithoutNumbers.{types_alone, op_without_numbers, region_without_numbers, block_without_numbers};
 

@@ -1,3 +1,5 @@
+//! Sameness is an equivalence.
+
 ghost use Rattle.tree_shape.specs.Laws.{IsReflexive, IsSymmetric, IsTransitive};
 
 /// Every function is the same as itself.

@@ -1,3 +1,5 @@
+//! The numbers of a function, place by place.
+
 ghost use Rattle.std.specs.Prelude.{◌≡◌, [], ◌++◌, OnOk, map, flat_map};
 ghost use Rattle.tree_shape.specs.NumbersOf.{numbers_of_values, values_of_op, values_of_block, values_of_region, labels_of_op, labels_of_block, labels_of_region};
 

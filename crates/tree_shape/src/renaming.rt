@@ -1,3 +1,5 @@
+//! Whether numbers at the same places are renamed one-to-one.
+
 ghost use Rattle.std.specs.Prelude.{◌≡◌, ◌↔◌, IsTrue, IfOk};
 ghost use Rattle.tree_shape.specs.Renaming.{Renames, OneToOne};
 

@@ -1,3 +1,5 @@
+//! Sameness of functions.
+
 ghost use Rattle.std.specs.Prelude.{◌≡◌, ◌↔◌, IsTrue, IfOk};
 ghost use Rattle.tree_shape.specs.Same.{Same};
 ghost use Rattle.tree_shape.specs.NumbersOf.{values_of_op, labels_of_op};
