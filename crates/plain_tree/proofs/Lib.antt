@@ -1,0 +1,3 @@
+pub mod TypeTrip
+pub mod AttrTrip
+pub mod OpTrip
