@@ -22,12 +22,12 @@ mutual
 
   -- attributes in order
   pub data PlainAttrs : Type 0 where
-    no_attrs : PlainAttrs
+    end_of_attrs : PlainAttrs
     more_attrs : PlainAttr → PlainAttrs → PlainAttrs
 
   -- attributes by name
   pub data PlainDict : Type 0 where
-    no_entries : PlainDict
+    end_of_entries : PlainDict
     more_entries : List ℕ → PlainAttr → PlainDict → PlainDict
 
 -- the entries of a dictionary of an operation
@@ -35,11 +35,11 @@ abbrev pub Entries : Type 0
 Entries = List (List ℕ × PlainAttr)
 
 abbrev pub attrs_in : List PlainAttr → PlainAttrs
-attrs_in [] = no_attrs
+attrs_in [] = end_of_attrs
 attrs_in (a ∷ rest) = more_attrs a (attrs_in rest)
 
 abbrev pub dict_in : Entries → PlainDict
-dict_in [] = no_entries
+dict_in [] = end_of_entries
 dict_in (e ∷ rest) = more_entries e.0 e.1 (dict_in rest)
 
 abbrev mutual
@@ -56,11 +56,11 @@ abbrev mutual
   attr_tree (Dialect name words) = attr.Dialect name words
 
   pub attr_trees : PlainAttrs → List AttrTree
-  attr_trees no_attrs = []
+  attr_trees end_of_attrs = []
   attr_trees (more_attrs a rest) = attr_tree a ∷ attr_trees rest
 
   pub dict_tree : PlainDict → List (List ℕ × AttrTree)
-  dict_tree no_entries = []
+  dict_tree end_of_entries = []
   dict_tree (more_entries name a rest) = (name, attr_tree a) ∷ dict_tree rest
 
 -- the tree of an operation's entries

@@ -27,17 +27,17 @@ mutual
 
   -- operations in order
   pub data Ops : Type 0 where
-    no_ops : Ops
+    end_of_ops : Ops
     more_ops : Op → Ops → Ops
 
   -- regions in order, each by its blocks
   pub data Regions : Type 0 where
-    no_regions : Regions
+    end_of_regions : Regions
     region : Blocks → Regions → Regions
 
   -- blocks in order, each by its label, its arguments and its operations
   pub data Blocks : Type 0 where
-    no_blocks : Blocks
+    end_of_blocks : Blocks
     block : ℕ → Values → Ops → Blocks → Blocks
 
 -- The way to the trees and back
@@ -64,19 +64,19 @@ abbrev mutual
   })
 
   pub op_trees : Ops → List OpTree
-  op_trees no_ops = []
+  op_trees end_of_ops = []
   op_trees (more_ops o os) = op_tree o ∷ op_trees os
 
   pub region_trees : Regions → List RegionTree
-  region_trees no_regions = []
+  region_trees end_of_regions = []
   region_trees (region blocks more) = roll-RegionTree (record { blocks = block_trees blocks }) ∷ region_trees more
 
   pub block_trees : Blocks → List BlockTree
-  block_trees no_blocks = []
+  block_trees end_of_blocks = []
   block_trees (block label args ops more) = roll-BlockTree (record { label = label; args = values_tree args; ops = op_trees ops }) ∷ block_trees more
 
 abbrev pub ops_in : List Op → Ops
-ops_in [] = no_ops
+ops_in [] = end_of_ops
 ops_in (o ∷ os) = more_ops o (ops_in os)
 
 -- a block by itself
@@ -86,11 +86,11 @@ pub record PlainBlock : Type 0 where
   pub ops : Ops
 
 abbrev pub blocks_in : List PlainBlock → Blocks
-blocks_in [] = no_blocks
+blocks_in [] = end_of_blocks
 blocks_in (b ∷ bs) = block b.label b.args b.ops (blocks_in bs)
 
 abbrev pub regions_in : List Blocks → Regions
-regions_in [] = no_regions
+regions_in [] = end_of_regions
 regions_in (r ∷ rs) = region r (regions_in rs)
 
 abbrev pub block_at : BlockTree-F PlainBlock Op Blocks → PlainBlock

@@ -22,16 +22,16 @@ mutual
 
   -- types in order
   pub data PlainTypes : Type 0 where
-    no_types : PlainTypes
+    end_of_types : PlainTypes
     more_types : PlainType → PlainTypes → PlainTypes
 
 -- a list of types as such data, and back
 abbrev pub types_in : List PlainType → PlainTypes
-types_in [] = no_types
+types_in [] = end_of_types
 types_in (t ∷ ts) = more_types t (types_in ts)
 
 abbrev pub types_of : PlainTypes → List PlainType
-types_of no_types = []
+types_of end_of_types = []
 types_of (more_types t ts) = t ∷ types_of ts
 
 abbrev mutual
@@ -48,7 +48,7 @@ abbrev mutual
   type_tree (LlvmFunc output inputs) = type.LlvmFunc (type_tree output) (type_trees inputs)
 
   pub type_trees : PlainTypes → List TypeTree
-  type_trees no_types = []
+  type_trees end_of_types = []
   type_trees (more_types t ts) = type_tree t ∷ type_trees ts
 
 abbrev pub plain_at : TypeTree-F PlainType → PlainType
@@ -92,6 +92,6 @@ abbrev mutual
   same_type _ _ = false
 
   pub same_types : PlainTypes → PlainTypes → Bool
-  same_types no_types no_types = true
+  same_types end_of_types end_of_types = true
   same_types (more_types t ts) (more_types u us) = same_type t u && same_types ts us
   same_types _ _ = false
