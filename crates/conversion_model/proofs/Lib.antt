@@ -1,0 +1,3 @@
+pub mod TestSet
+pub mod OrderExamples
+pub mod CastExamples
