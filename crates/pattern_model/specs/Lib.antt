@@ -1,0 +1,9 @@
+pub mod Drafts
+pub mod ScfRows
+pub mod ExpandRows
+pub mod ArithRows
+pub mod CfRows
+pub mod MemrefRows
+pub mod FuncRows
+pub mod Tables
+pub mod Promises
