@@ -6,4 +6,8 @@ pub mod CfRows
 pub mod MemrefRows
 pub mod FuncRows
 pub mod Tables
+pub mod OperationNames
+pub mod PassTable
+pub mod ModuleStep
+pub mod Fold
 pub mod Promises

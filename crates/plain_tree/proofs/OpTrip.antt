@@ -7,9 +7,11 @@ use Rattle.tree_model.specs.declared.op_tree.BlockTree.{BlockTree, roll-BlockTre
 use Rattle.tree_model.specs.declared.op_tree.RegionTree.{RegionTree, roll-RegionTree, map-RegionTree}
 use Rattle.tree_model.specs.declared.op_tree.BlockTree.TheOpen.{OpTree-F, BlockTree-F, RegionTree-F}
 use Rattle.tree_model.specs.declared.op_tree.BlockTree.TheFolds.{fold-OpTree, fold-BlockTree, fold-RegionTree, ind-OpTree, fold-roll-OpTree, fold-roll-BlockTree, fold-roll-RegionTree}
+use Rattle.tree_model.specs.declared.op_tree.FuncTree.{FuncTree}
+use Rattle.tree_model.specs.declared.op_tree.ModuleTree.{ModuleTree}
 use Rattle.plain_tree.specs.Types.{PlainType, type_tree, plain_type}
 use Rattle.plain_tree.specs.Attrs.{entries_tree, plain_entries}
-use Rattle.plain_tree.specs.Ops.{Op, op, Ops, PlainBlock, Blocks, block_at, op_at, region_at, blocks_in, ops_in, regions_in, op_tree, op_trees, region_trees, block_trees, plain_op, plain_values, values_tree}
+use Rattle.plain_tree.specs.Ops.{Op, op, Ops, PlainBlock, Blocks, block_at, op_at, region_at, blocks_in, ops_in, regions_in, op_tree, op_trees, region_trees, block_trees, plain_op, plain_values, values_tree, plain_func, func_tree, plain_module, module_tree}
 use Rattle.plain_tree.proofs.TypeTrip.{type_trip}
 use Rattle.plain_tree.proofs.AttrTrip.{entries_trip}
 
@@ -107,3 +109,13 @@ op_trip = ind-OpTree BlockTrip OpTrip RegionTrip
     (λ x y is. ap block_tree (fold-roll-BlockTree PlainBlock Op Blocks block_at op_at region_at x) ∙ subst block_kept is (block_layer y))
     (λ x y is. ap op_tree (fold-roll-OpTree PlainBlock Op Blocks block_at op_at region_at x) ∙ subst op_kept is (op_layer y))
     (λ x y is. ap region_tree (fold-roll-RegionTree PlainBlock Op Blocks block_at op_at region_at x) ∙ subst region_kept is (region_layer y))
+
+funcs_trip : (fs : List FuncTree) → map func_tree (map plain_func fs) ≡ fs
+funcs_trip [] = refl
+funcs_trip (f ∷ fs) = ap (λ o. record { op = o } ∷ map func_tree (map plain_func fs)) (op_trip f.op) ∙ ap (λ rest. f ∷ rest) (funcs_trip fs)
+
+pub module_trip : (m : ModuleTree) → module_tree (plain_module m) ≡ m
+module_trip m =
+    ap (λ props. record { props = props; attrs = entries_tree (plain_entries m.attrs); funcs = map func_tree (map plain_func m.funcs) }) (entries_trip m.props)
+    ∙ ap (λ attrs. record { props = m.props; attrs = attrs; funcs = map func_tree (map plain_func m.funcs) }) (entries_trip m.attrs)
+    ∙ ap (λ funcs. record { props = m.props; attrs = m.attrs; funcs = funcs }) (funcs_trip m.funcs)

@@ -7,6 +7,7 @@ use Rattle.tree_model.specs.declared.op_tree.RegionTree.{RegionTree, roll-Region
 use Rattle.tree_model.specs.declared.op_tree.BlockTree.TheOpen.{OpTree-F, BlockTree-F, RegionTree-F}
 use Rattle.tree_model.specs.declared.op_tree.BlockTree.TheFolds.{fold-OpTree}
 use Rattle.tree_model.specs.declared.op_tree.FuncTree.{FuncTree}
+use Rattle.tree_model.specs.declared.op_tree.ModuleTree.{ModuleTree}
 use Rattle.plain_tree.specs.Types.{PlainType, Void, type_tree, plain_type}
 use Rattle.plain_tree.specs.Attrs.{Entries, entries_tree, plain_entries}
 
@@ -112,3 +113,16 @@ plain_func f = plain_op f.op
 
 abbrev pub func_tree : Op → FuncTree
 func_tree o = record { op = op_tree o }
+
+-- a module: its properties, its attributes and its functions
+pub record PlainModule : Type 0 where
+  pub props : Entries
+  pub attrs : Entries
+  pub funcs : List Op
+
+-- the plain form of a module, and its tree
+abbrev pub plain_module : ModuleTree → PlainModule
+plain_module m = record { props = plain_entries m.props; attrs = plain_entries m.attrs; funcs = map plain_func m.funcs }
+
+abbrev pub module_tree : PlainModule → ModuleTree
+module_tree m = record { props = entries_tree m.props; attrs = entries_tree m.attrs; funcs = map func_tree m.funcs }

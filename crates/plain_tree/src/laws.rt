@@ -1,8 +1,9 @@
 //! Laws of plain trees, each the contract of a function that does nothing.
 
-ghost use Rattle.plain_tree.specs.Promises.{TreeOfPlain};
+ghost use Rattle.plain_tree.specs.Promises.{ModuleOfPlain, TreeOfPlain};
 
-/// A tree is that of its plain form, so nothing is lost there.
+/// A tree is that of its plain form, so nothing is lost there. So is a module.
 pub fn law_tree_of_plain()
-    ensures { TreeOfPlain }
+    ensures operations { TreeOfPlain }
+    ensures modules { ModuleOfPlain }
 {}
