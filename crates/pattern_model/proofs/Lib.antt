@@ -1,0 +1,4 @@
+pub mod Trees
+pub mod PickExamples
+pub mod PassExamples
+pub mod MemrefExamples

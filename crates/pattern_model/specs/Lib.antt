@@ -6,6 +6,7 @@ pub mod CfRows
 pub mod MemrefRows
 pub mod FuncRows
 pub mod Tables
+pub mod SetNames
 pub mod OperationNames
 pub mod PassTable
 pub mod ModuleStep
