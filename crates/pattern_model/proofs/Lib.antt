@@ -5,3 +5,7 @@ pub mod MemrefExamples
 pub mod RowTables
 pub mod ArithTable
 pub mod ExpandTable
+pub mod CfTable
+pub mod MemrefTable
+pub mod FuncTable
+pub mod ScfExamples
