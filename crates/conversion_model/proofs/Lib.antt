@@ -1,3 +1,4 @@
 pub mod TestSet
 pub mod OrderExamples
 pub mod CastExamples
+pub mod ModeExamples

@@ -9,3 +9,4 @@ pub mod CfTable
 pub mod MemrefTable
 pub mod FuncTable
 pub mod ScfExamples
+pub mod FoldExamples
