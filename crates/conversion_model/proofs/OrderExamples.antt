@@ -56,7 +56,7 @@ widening : Pattern
 widening = record { root = codes "t.w"; makes = codes "t.w" ∷ codes "t.c" ∷ []; benefit = 1; is_converted = false; row = λ bits. Straight (λ o. widened o.results) }
 
 -- a pattern isn't applied twice on one path
-once_on_a_path : chosen 64 (says ((codes "t.c", Legal) ∷ [])) (widening ∷ []) [] (record { name = codes "t.w"; operands = []; results = Index ∷ []; props = []; attrs = []; successors = 0; regions = 0 }) ≡ None
+once_on_a_path : chosen 64 (says ((codes "t.c", Legal) ∷ [])) (widening ∷ to_one (codes "t.x") (codes "t.c") 1 ∷ []) [] (record { name = codes "t.w"; operands = []; results = Index ∷ []; props = []; attrs = []; successors = 0; regions = 0 }) ≡ None
 unfolding widening widened
 once_on_a_path = refl
 

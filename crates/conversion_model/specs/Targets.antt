@@ -67,31 +67,31 @@ pub data Mode : Type 0 where
   Partial : Mode
   Full : Mode
 
-abbrev pub legal_at : Shape → Legality → Bool
-legal_at o Legal = true
-legal_at o (Dynamic rule) = holds rule o
-legal_at o Illegal = false
-legal_at o Unknown = false
+abbrev pub is_legal_at : Shape → Legality → Bool
+is_legal_at o Legal = true
+is_legal_at o (Dynamic rule) = holds rule o
+is_legal_at o Illegal = false
+is_legal_at o Unknown = false
 
 -- whether the target calls the operation legal: Unknown isn't legal
 abbrev pub is_legal : Target → Shape → Bool
-is_legal target o = legal_at o (target o.name)
+is_legal target o = is_legal_at o (target o.name)
 
-abbrev pub may_be_legal_at : Legality → Bool
-may_be_legal_at Legal = true
-may_be_legal_at (Dynamic rule) = true
-may_be_legal_at Illegal = false
-may_be_legal_at Unknown = false
+abbrev pub may_be_at : Legality → Bool
+may_be_at Legal = true
+may_be_at (Dynamic rule) = true
+may_be_at Illegal = false
+may_be_at Unknown = false
 
 -- whether an operation with the name may be legal
 abbrev pub may_be_legal : Target → List ℕ → Bool
-may_be_legal target name = may_be_legal_at (target name)
+may_be_legal target name = may_be_at (target name)
 
-abbrev pub illegal_at : Shape → Legality → Bool
-illegal_at o Legal = false
-illegal_at o (Dynamic rule) = not (holds rule o)
-illegal_at o Illegal = true
-illegal_at o Unknown = false
+abbrev pub is_illegal_at : Shape → Legality → Bool
+is_illegal_at o Legal = false
+is_illegal_at o (Dynamic rule) = not (holds rule o)
+is_illegal_at o Illegal = true
+is_illegal_at o Unknown = false
 
 -- the terminators that go with the operation that holds them
 abbrev pub goes_with_holder : List ℕ → Bool
@@ -100,5 +100,5 @@ goes_with_holder name = bytes_eq name (codes "scf.yield") || bytes_eq name (code
 -- whether the mode demands that a source operation is legalised: in partial mode those that are illegal or dynamically
 -- illegal, in full mode all but the terminators that go with their holder
 abbrev pub demanded : Mode → Target → Shape → Bool
-demanded Partial target o = illegal_at o (target o.name)
+demanded Partial target o = is_illegal_at o (target o.name)
 demanded Full target o = not (goes_with_holder o.name)
