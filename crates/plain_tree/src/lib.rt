@@ -5,4 +5,4 @@
 
 mod laws;
 
-pub use laws::law_tree_of_plain;
+pub use laws::{law_plain_of_tree, law_tree_of_plain};
