@@ -2,3 +2,5 @@ pub mod TestSet
 pub mod OrderExamples
 pub mod CastExamples
 pub mod ModeExamples
+pub mod TypeLaws
+pub mod CastLaws

@@ -8,3 +8,4 @@ pub mod Items
 pub mod Uses
 pub mod Reconciled
 pub mod Conversion
+pub mod Promises
