@@ -4,3 +4,5 @@ pub mod CastExamples
 pub mod ModeExamples
 pub mod TypeLaws
 pub mod CastLaws
+pub mod Sizes
+pub mod ReconcileLaws

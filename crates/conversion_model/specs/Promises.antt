@@ -9,7 +9,7 @@ use Rattle.conversion_model.specs.Templates.{Template}
 use Rattle.conversion_model.specs.Targets.{Shape}
 use Rattle.conversion_model.specs.Chosen.{Leaves, by_template}
 use Rattle.conversion_model.specs.Uses.{operations}
-use Rattle.conversion_model.specs.Reconciled.{is_cast, is_unused_cast, pair_of, reconciled}
+use Rattle.conversion_model.specs.Reconciled.{is_cast, is_unused_cast, pair_of, pairs_left_out, reconciled}
 
 -- the own types are those that the table maps to themselves, at each width
 abbrev pub OwnTypes : Type 0
@@ -32,3 +32,7 @@ NoCasts = (change : PlainType → Option PlainType) (leaves : Leaves) (o : Shape
 -- of a function that is reconciled no cast is left without uses
 abbrev pub NoUnusedCast : Type 0
 NoUnusedCast = (f : Op) → is_cast f ≡ false → list_any (λ o. is_unused_cast (operations (reconciled f)) o.1) (operations (reconciled f)) ≡ false
+
+-- where the first half of reconciling ends, no cast is left that another one undoes
+abbrev pub NoPairLeft : Type 0
+NoPairLeft = (f : Op) → is_cast f ≡ false → pair_of (pairs_left_out (length (operations f)) f) ≡ None

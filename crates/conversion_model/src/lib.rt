@@ -4,5 +4,5 @@
 mod laws;
 mod templates;
 
-pub use laws::{law_no_casts, law_own_types};
+pub use laws::{law_no_casts, law_own_types, law_reconciled};
 pub use templates::{Source, SourceList, StepList, StepTree, TemplateTree};
