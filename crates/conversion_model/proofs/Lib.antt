@@ -6,3 +6,4 @@ pub mod TypeLaws
 pub mod CastLaws
 pub mod Sizes
 pub mod ReconcileLaws
+pub mod RenamedTypes

@@ -8,4 +8,5 @@ pub mod Items
 pub mod Uses
 pub mod Reconciled
 pub mod Conversion
+pub mod Renamings
 pub mod Promises

@@ -1,5 +1,5 @@
 -- Templates: the operations that replace one operation, without numbers of values.
-use Rattle.std.specs.Prelude.{ℕ, zero, suc, ◌+◌, ◌==◌, List, [], ◌∷◌, ◌++◌, length, map, get_or, if◌then◌else◌}
+use Rattle.std.specs.Prelude.{ℕ, zero, suc, pred, ◌+◌, ◌==◌, List, [], ◌∷◌, ◌++◌, length, map, get_or, if◌then◌else◌}
 use Rattle.tree_model.specs.declared.type_tree.TypeTree.{TypeTree}
 use Rattle.plain_tree.specs.Types.{PlainType, type_tree}
 use Rattle.plain_tree.specs.Attrs.{Entries, entries_tree}
@@ -33,9 +33,10 @@ template_tree t = record { steps = map step_tree t.steps; results = t.results }
 
 -- Writing: a template with numbers
 
--- the number of a source, from what the operands are and what the n-th value made is called
+-- The number of a source, from what the operands are and what the n-th value made is called. An operand that isn't there
+-- is called like the first value.
 abbrev pub number_of : (ℕ → ℕ) → List ℕ → Source → ℕ
-number_of name operands (Operand k) = get_or operands k 0
+number_of name operands (Operand k) = get_or operands k (name 0)
 number_of name operands (Made k) = name k
 
 -- the number of the n-th value: that of the first result that it is, else a new one
@@ -50,13 +51,22 @@ abbrev pub values_made : (ℕ → ℕ) → ℕ → List PlainType → Values
 values_made name n [] = []
 values_made name n (t ∷ ts) = (name n, t) ∷ values_made name (n + 1) ts
 
+-- the label at that place in front of others, none where there is no such place
+abbrev pub label_at : List ℕ → ℕ → List ℕ → List ℕ
+label_at [] k more = more
+label_at (l ∷ ls) k more = if k == 0 then l ∷ more else label_at ls (pred k) more
+
+abbrev pub labels_at : List ℕ → List ℕ → List ℕ
+labels_at labels [] = []
+labels_at labels (k ∷ ks) = label_at labels k (labels_at labels ks)
+
 -- a plain operation of a step
 abbrev pub step_op : (ℕ → ℕ) → List ℕ → List ℕ → ℕ → Step → Op
 step_op name operands labels n s = op (record { name = s.name; props = s.props; attrs = [] })
     (values_made name n s.makes)
     (map (number_of name operands) s.sources)
     end_of_regions
-    (map (λ k. get_or labels k 0) s.successors)
+    (labels_at labels s.successors)
 
 -- the name of a copy: no byte is 256, so no other operation has it
 abbrev pub copy_name : List ℕ
