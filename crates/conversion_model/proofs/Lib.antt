@@ -7,3 +7,5 @@ pub mod CastLaws
 pub mod Sizes
 pub mod ReconcileLaws
 pub mod RenamedTypes
+pub mod RenamedLines
+pub mod RenamedChoice
