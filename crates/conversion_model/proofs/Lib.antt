@@ -9,3 +9,7 @@ pub mod ReconcileLaws
 pub mod RenamedTypes
 pub mod RenamedLines
 pub mod RenamedChoice
+pub mod RenamedItems
+pub mod RenamedUses
+pub mod RenamedReconcile
+pub mod RenamedConversion

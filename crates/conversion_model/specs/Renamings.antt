@@ -1,8 +1,9 @@
 -- Trees that are the same but for numbers of values and labels: R says which values go together, L which labels.
-use Rattle.std.specs.Prelude.{ℕ, ◌==◌, ◌≡◌, Bool, List, [], ◌∷◌, Option, Some, None}
+use Rattle.std.specs.Prelude.{ℕ, ◌==◌, ◌≡◌, ◌⊎◌, Bool, false, List, [], ◌∷◌, Option, Some, None, Result, Ok, Err}
 use Rattle.plain_tree.specs.Types.{PlainType}
 use Rattle.plain_tree.specs.Ops.{Kind, Op, op, Ops, end_of_ops, more_ops, Regions, end_of_regions, region, Blocks, end_of_blocks, block, Values}
 use Rattle.conversion_model.specs.Rows.{Piece, Product, Opens, Held, Stands, Numbers, Row, Straight, Cutting, Framing, Pattern}
+use Rattle.conversion_model.specs.Conversion.{Pass, Supply, Unlegalised, conv}
 
 pub data RenAll (R : ℕ → ℕ → Type 0) : List ℕ → List ℕ → Type 0 where
   none_all : RenAll R [] []
@@ -71,3 +72,23 @@ RowRenames (Framing row) = Anything
 abbrev pub TableRenames : ℕ → List Pattern → Type 1
 TableRenames bits [] = Anything
 TableRenames bits (p ∷ ps) = RowRenames (p.row bits) × TableRenames bits ps
+
+-- The conversion
+
+-- new numbers that go together
+pub record RenSupply (R L : ℕ → ℕ → Type 0) (a b : Supply) : Type 0 where
+  pub rows : (n : ℕ) → RenNumbers R L (a.row n) (b.row n)
+  pub values : (n piece k : ℕ) → R (a.value n piece k) (b.value n piece k)
+  pub parameters : (k : ℕ) → R (a.parameter k) (b.parameter k)
+  pub arguments : (l m : ℕ) → L l m → (k : ℕ) → R (a.argument l k) (b.argument m k)
+
+-- answers that go together: the same failure, or functions that go together
+pub data RenAnswer (R L : ℕ → ℕ → Type 0) : Result Op Unlegalised → Result Op Unlegalised → Type 0 where
+  same_failure : {e : Unlegalised} → RenAnswer R L (Err e) (Err e)
+  ren_function : {f g : Op} → RenOp R L f g → RenAnswer R L (Ok f) (Ok g)
+
+-- The conversion of a renamed function is the renamed conversion, for any new numbers that go together: with the same
+-- failure, where it fails.
+abbrev pub ConversionRenames : Type 1
+ConversionRenames = (R L : ℕ → ℕ → Type 0) (p : Pass) (bits : ℕ) (new other : Supply) (f g : Op)
+    → OneToOne R → OneToOne L → TableRenames bits p.table → RenSupply R L new other → RenOp R L f g → RenAnswer R L (conv p bits new f) (conv p bits other g)
