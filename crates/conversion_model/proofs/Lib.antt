@@ -13,3 +13,4 @@ pub mod RenamedItems
 pub mod RenamedUses
 pub mod RenamedReconcile
 pub mod RenamedConversion
+pub mod FreshLaws

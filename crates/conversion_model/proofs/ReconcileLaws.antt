@@ -24,7 +24,7 @@ truth : (b : Bool) → T b → b ≡ true
 truth true t = refl
 truth false t = absurd t
 
-same_number : (m n : ℕ) → m ≡ n → (m == n) ≡ true
+pub same_number : (m n : ℕ) → m ≡ n → (m == n) ≡ true
 same_number m n same = subst (λ k. (m == k) ≡ true) same (truth (m == m) (eqb_refl m))
 
 or-true : (b : Bool) → (b || true) ≡ true

@@ -9,4 +9,5 @@ pub mod Uses
 pub mod Reconciled
 pub mod Conversion
 pub mod Renamings
+pub mod Fresh
 pub mod Promises
