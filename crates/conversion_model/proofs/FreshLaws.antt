@@ -18,7 +18,7 @@ sym_by m n false true p q = sym p ∙ same_number m n (sym (eqb-true n m q))
 eqb_sym : (m n : ℕ) → (m == n) ≡ (n == m)
 eqb_sym m n = sym_by m n (m == n) (n == m) refl refl
 
-labels_one : (new other : Supply) (f : Op) → Fresh new f → Fresh other f → OneToOne (SameLabel new other)
+pub labels_one : (new other : Supply) (f : Op) → Fresh new f → Fresh other f → OneToOne (SameLabel new other)
 labels_one new other f here there a b c d (old_label l p q) (old_label m r s) = refl
 labels_one new other f here there a b c d (old_label l p q) (new_label n k) = p n k ∙ sym (q n k)
 labels_one new other f here there a b c d (new_label n k) (old_label l p q) = eqb_sym _ l ∙ p n k ∙ sym (q n k) ∙ eqb_sym l _
@@ -42,7 +42,7 @@ places_one new other one p q r s (same_block l m j e) (same_line n y k) = refl
 places_one new other one p q r s (same_block l m j e) (same_function k) = refl
 places_one new other one p q r s (same_block l m j e) (same_block h i k d) = ap (λ b. b && (j == k)) (one l m h i e d)
 
-values_one : (new other : Supply) (f : Op) → Fresh new f → Fresh other f → OneToOne (SameValue new other)
+pub values_one : (new other : Supply) (f : Op) → Fresh new f → Fresh other f → OneToOne (SameValue new other)
 values_one new other f here there a b c d (old_number m p q) (old_number n r s) = refl
 values_one new other f here there a b c d (old_number m p q) (new_number r s e) = p r ∙ sym (q s)
 values_one new other f here there a b c d (new_number r s e) (old_number m p q) = eqb_sym _ m ∙ p r ∙ sym (q s) ∙ eqb_sym m _
@@ -77,7 +77,7 @@ mutual
   blocks_old value label (block l args ops more) p q =
       ren_block (label l p.0 q.0) (values_old value args p.1 q.1) (ops_old value label ops p.2 q.2) (blocks_old value label more p.3 q.3)
 
-new_ones : (new other : Supply) → RenSupply (SameValue new other) (SameLabel new other) new other
+pub new_ones : (new other : Supply) → RenSupply (SameValue new other) (SameLabel new other) new other
 new_ones new other = record {
   rows = λ n. record { values = λ k. new_number (of_row n k) (of_row n k) (same_row n k); labels = λ k. new_label n k };
   values = λ n piece k. new_number (of_line n piece k) (of_line n piece k) (same_line n piece k);
@@ -85,9 +85,12 @@ new_ones new other = record {
   arguments = λ l m e k. new_number (of_block l k) (of_block m k) (same_block l m k e);
 }
 
+pub old_function : (new other : Supply) (f : Op) → Fresh new f → Fresh other f → RenOp (SameValue new other) (SameLabel new other) f f
+old_function new other f here there = op_old (λ n a b. old_number n a b) (λ l a b. old_label l a b) f here.apart there.apart
+
 -- for any two fresh supplies the conversions of a function are the same up to numbers
 pub supplies_agree : (p : Pass) (bits : ℕ) (new other : Supply) (f : Op) → TableRenames bits p.table → Fresh new f → Fresh other f
     → RenAnswer (SameValue new other) (SameLabel new other) (conv p bits new f) (conv p bits other f)
 supplies_agree p bits new other f all here there =
     conversion_renames (SameValue new other) (SameLabel new other) p bits new other f f (values_one new other f here there) (labels_one new other f here there) all (new_ones new other)
-      (op_old (λ n a b. old_number n a b) (λ l a b. old_label l a b) f here.apart there.apart)
+      (old_function new other f here there)

@@ -10,3 +10,5 @@ pub mod MemrefTable
 pub mod FuncTable
 pub mod ScfExamples
 pub mod FoldExamples
+pub mod ScfRenames
+pub mod PassRenames
