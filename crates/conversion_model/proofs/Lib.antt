@@ -1,0 +1,16 @@
+pub mod TestSet
+pub mod OrderExamples
+pub mod CastExamples
+pub mod ModeExamples
+pub mod TypeLaws
+pub mod CastLaws
+pub mod Sizes
+pub mod ReconcileLaws
+pub mod RenamedTypes
+pub mod RenamedLines
+pub mod RenamedChoice
+pub mod RenamedItems
+pub mod RenamedUses
+pub mod RenamedReconcile
+pub mod RenamedConversion
+pub mod FreshLaws

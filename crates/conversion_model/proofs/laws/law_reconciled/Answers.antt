@@ -1,0 +1,8 @@
+use Rattle.conversion_model.proofs.ReconcileLaws.{no_pair_left, no_unused_cast}
+use Rattle.conversion_model.proofs.laws.law_reconciled.Goals as goal
+
+pub returns-clause-pairs : goal.returns-clause-pairs
+returns-clause-pairs c = no_pair_left
+
+pub returns-clause-unused : goal.returns-clause-unused
+returns-clause-unused c = no_unused_cast

@@ -1,0 +1,13 @@
+pub mod Types
+pub mod Templates
+pub mod Targets
+pub mod Rows
+pub mod Chosen
+pub mod Choice
+pub mod Items
+pub mod Uses
+pub mod Reconciled
+pub mod Conversion
+pub mod Renamings
+pub mod Fresh
+pub mod Promises

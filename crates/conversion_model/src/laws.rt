@@ -1,0 +1,20 @@
+//! Laws of conversion, each the contract of a function that does nothing.
+
+ghost use Rattle.conversion_model.specs.Promises.{ConvertedIsOwn, NoCasts, NoPairLeft, NoUnusedCast, OwnTypes};
+
+/// The own types are those that the table maps to themselves, at each width, and each converted type is own.
+pub fn law_own_types()
+    ensures own { OwnTypes }
+    ensures converted { ConvertedIsOwn }
+{}
+
+/// Where no type changes a template has no casts round it.
+pub fn law_no_casts()
+    ensures { NoCasts }
+{}
+
+/// Reconciliation comes to its end: no cast is left that another one undoes, and then none without uses.
+pub fn law_reconciled()
+    ensures pairs { NoPairLeft }
+    ensures unused { NoUnusedCast }
+{}

@@ -1,0 +1,8 @@
+//! Conversion: shapes, templates, rows, the chosen derivation, and the conversion of one function.
+#![tactic(auto)]
+
+mod laws;
+mod templates;
+
+pub use laws::{law_no_casts, law_own_types, law_reconciled};
+pub use templates::{Source, SourceList, StepList, StepTree, TemplateTree};

@@ -1,0 +1,14 @@
+pub mod Trees
+pub mod PickExamples
+pub mod PassExamples
+pub mod MemrefExamples
+pub mod RowTables
+pub mod ArithTable
+pub mod ExpandTable
+pub mod CfTable
+pub mod MemrefTable
+pub mod FuncTable
+pub mod ScfExamples
+pub mod FoldExamples
+pub mod ScfRenames
+pub mod PassRenames

@@ -1,0 +1,14 @@
+pub mod Drafts
+pub mod ScfRows
+pub mod ExpandRows
+pub mod ArithRows
+pub mod CfRows
+pub mod MemrefRows
+pub mod FuncRows
+pub mod Tables
+pub mod SetNames
+pub mod OperationNames
+pub mod PassTable
+pub mod ModuleStep
+pub mod Fold
+pub mod Promises

@@ -1,0 +1,8 @@
+//! The patterns of each set, the passes, and what a pipeline makes of a module.
+//!
+//! A crate of definitions with their laws.
+#![tactic(auto)]
+
+mod laws;
+
+pub use laws::{law_renaming, law_tables};

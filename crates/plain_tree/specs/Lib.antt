@@ -1,0 +1,4 @@
+pub mod Types
+pub mod Attrs
+pub mod Ops
+pub mod Promises
