@@ -1,0 +1,2 @@
+//! Integers of a number of bits: their arithmetic, where it is undefined, and its laws.
+#![tactic(auto)]
