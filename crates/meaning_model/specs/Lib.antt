@@ -1,0 +1,12 @@
+pub mod Values
+pub mod Pures
+pub mod Doings
+pub mod Calling
+pub mod Forms
+pub mod Straight
+pub mod Codes
+pub mod Worlds
+pub mod Machine
+pub mod Buffers
+pub mod Cells
+pub mod Structured
