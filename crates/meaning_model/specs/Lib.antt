@@ -10,3 +10,8 @@ pub mod Machine
 pub mod Buffers
 pub mod Cells
 pub mod Structured
+pub mod Types
+pub mod Properties
+pub mod Classes
+pub mod Decoding
+pub mod Meaning
