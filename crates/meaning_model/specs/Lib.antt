@@ -15,3 +15,4 @@ pub mod Properties
 pub mod Classes
 pub mod Decoding
 pub mod Meaning
+pub mod Promises

@@ -255,14 +255,18 @@ external f xs w =
     if length xs == length inputs then and_then (numbers xs) (λ ns. Gives (tells f inputs outputs ns w)) else answer.Outside))
 
 -- a call of a function with blocks enters the first one
-abbrev pub begins : Function → List Value → Answer Place
+abbrev pub begins : Function → List Value → Answer Spot
 begins f xs =
     and_then (gathered f.shapes xs) (λ args. and_then (present (entry f.body)) (λ t. and_then (present (bind t.args args [])) (λ env.
-    Gives (record { spot = record { ops = t.ops; blocks = f.body; env = env }; frames = [] }))))
+    Gives (record { ops = t.ops; blocks = f.body; env = env }))))
+
+-- the place at a spot that no region holds
+abbrev pub at_top : Spot → Place
+at_top s = record { spot = s; frames = [] }
 
 abbrev pub calls_body : {State : Type 0} → (Question → State → Reply State) → Next State → Blocks → Function → List Value → Caller → List Caller → World State → Outcome State
 calls_body ask next BlocksEnd f xs c cs w = ending (external f xs w) w (λ told. resumes ask next (c.goes_on told.values) c.results c.place cs told.world)
-calls_body ask next (Block l args ops more) f xs c cs w = ending (begins f xs) w (λ p. next p (c ∷ cs) w)
+calls_body ask next (Block l args ops more) f xs c cs w = ending (begins f xs) w (λ s. next (at_top s) (c ∷ cs) w)
 
 -- what a return comes to: the run is over, or the newest call goes on
 abbrev pub gives_back : {State : Type 0} → (Question → State → Reply State) → Next State → List Value → List Caller → World State → Outcome State

@@ -9,7 +9,7 @@ use Rattle.meaning_model.specs.Doings.{Question}
 use Rattle.meaning_model.specs.Calling.{unpacked}
 use Rattle.meaning_model.specs.Codes.{Blocks, BlocksEnd, Block, Face, Function, find_function}
 use Rattle.meaning_model.specs.Worlds.{Stop, More, Undefined, Outside, NoRoom, Reply, ExternalCall, World, all_signed}
-use Rattle.meaning_model.specs.Machine.{Place, begins, Outcome, Finish, Returned, Stopped, exec}
+use Rattle.meaning_model.specs.Machine.{Spot, begins, at_top, Outcome, Finish, Returned, Stopped, exec}
 use Rattle.meaning_model.specs.Structured.{runs, outcome_of}
 use Rattle.meaning_model.specs.Buffers.{Heap, no_heap, ask_heap}
 use Rattle.meaning_model.specs.Cells.{Cells, no_cells, ask_cells}
@@ -41,7 +41,7 @@ arguments _ _ = answer.Outside
 pub record Entry : Type 0 where
   pub outputs : List ℕ
   pub function : Function
-  pub place : Place
+  pub spot : Spot
 
 abbrev pub with_blocks : Blocks → Function → Answer Function
 with_blocks BlocksEnd f = answer.Outside
@@ -50,7 +50,7 @@ with_blocks (Block l args ops more) f = Gives f
 abbrev pub entry_at : Function → List ℤ → Answer Entry
 entry_at f args =
     and_then (present f.face.inputs) (λ inputs. and_then (present f.face.outputs) (λ outputs.
-    and_then (arguments inputs args) (λ vs. with_answer (λ p. record { outputs = outputs; function = f; place = p }) (begins f vs))))
+    and_then (arguments inputs args) (λ vs. with_answer (λ s. record { outputs = outputs; function = f; spot = s }) (begins f vs))))
 
 abbrev pub entry_of : List Function → List ℕ → List ℤ → Answer Entry
 entry_of fs name args = and_then (present (find_function name fs)) (λ f. and_then (with_blocks f.body f) (λ g. entry_at g args))
@@ -89,12 +89,12 @@ from_entry answer.Outside m run = no_run Outside m
 abbrev pub structured : List Function → List ℕ → List ℤ → List ℤ → ℕ → Result Heap
 structured fs name args answers fuel =
     from_entry (entry_of fs name args) no_heap (λ e.
-    result_of e (outcome_of (runs ask_heap fs e.place.spot.ops e.place.spot.blocks e.place.spot.env fuel (first_world no_heap answers))))
+    result_of e (outcome_of (runs ask_heap fs e.spot.ops e.spot.blocks e.spot.env fuel (first_world no_heap answers))))
 
 -- The same by the machine, over any memory.
 abbrev pub stepped : {State : Type 0} → (Question → State → Reply State) → State → List Function → List ℕ → List ℤ → List ℤ → ℕ → Result State
 stepped ask m fs name args answers fuel =
-    from_entry (entry_of fs name args) m (λ e. result_of e (exec ask fs fuel e.place [] (first_world m answers)))
+    from_entry (entry_of fs name args) m (λ e. result_of e (exec ask fs fuel (at_top e.spot) [] (first_world m answers)))
 
 -- The meaning S of a module, where an `index` has so many bits.
 abbrev pub means_s : ModuleTree → List ℕ → List ℤ → List ℤ → ℕ → ℕ → Result Heap

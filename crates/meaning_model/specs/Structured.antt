@@ -9,7 +9,7 @@ use Rattle.meaning_model.specs.Forms.{Form, If, For, While, Switch, Execute, Yie
 use Rattle.meaning_model.specs.Straight.{does}
 use Rattle.meaning_model.specs.Codes.{Ops, OpsEnd, Op, Blocks, BlocksEnd, Block, Regions, region_at, Target, entry, Function, find_function, Env, lookups, bind}
 use Rattle.meaning_model.specs.Worlds.{Stop, More, Undefined, Outside, Reply, World}
-use Rattle.meaning_model.specs.Machine.{Spot, Behind, Counting, Looping, Step, Goes, Calls, Returns, Stops, performs, has_round, next_number, counts, case_of, first_if, Place, begins, external, Outcome, with_memory}
+use Rattle.meaning_model.specs.Machine.{Spot, Behind, Counting, Looping, Step, Goes, Calls, Returns, Stops, performs, has_round, next_number, counts, case_of, first_if, begins, external, Outcome, with_memory}
 use Rattle.meaning_model.specs.Machine.{Finish as finish}
 
 -- What is run: the operations ahead in a block of these blocks; a counting loop at its test, at a number and with the values that it
@@ -105,8 +105,8 @@ resume ask run d rs s n w = settle run (performs ask d rs s w.memory) n w
 abbrev pub call : {State : Type 0} → (Question → State → Reply State) → Runs State → Blocks → Function → List Value → (List Value → Doing) → List ℕ → Spot → ℕ → World State → Ran State
 call ask run BlocksEnd f xs k rs s n w = taking (external f xs w) w (λ told. resume ask run (k told.values) rs s n told.world)
 call ask run (Block l args ops more) f xs k rs s n w =
-    taking (begins f xs) w (λ p.
-    on_return (run (Ahead p.spot.ops p.spot.blocks) p.spot.env n w) (λ ys n1 w1. resume ask run (k ys) rs s n1 w1))
+    taking (begins f xs) w (λ start.
+    on_return (run (Ahead start.ops start.blocks) start.env n w) (λ ys n1 w1. resume ask run (k ys) rs s n1 w1))
 
 abbrev pub follow : {State : Type 0} → (Question → State → Reply State) → List Function → Runs State → Step Spot State → ℕ → World State → Ran State
 follow ask fs run (Goes s m) n w = run (Ahead s.ops s.blocks) s.env n (with_memory w m)
