@@ -25,28 +25,28 @@ module _ {State : Type 0} (ask : Question → State → Reply State) (fs : List 
     (Grows : State → State → Type 0) (grows_refl : (m : State) → Grows m m) (grows_trans : (l m n : State) → Grows l m → Grows m n → Grows l n)
     (Allowed : Stop → Type 0) (more_allowed : Allowed More) (undefined_allowed : Allowed Undefined) (outside_allowed : Allowed Outside) where
 
-  abbrev ReplyFrom : State → Reply State → Type 0
+  abbrev pub ReplyFrom : State → Reply State → Type 0
   ReplyFrom m (Answers ys m1) = Grows m m1
   ReplyFrom m (Refuses e) = Allowed e
 
-  abbrev StepFrom : {P : Type 0} → State → Step P State → Type 0
+  abbrev pub StepFrom : {P : Type 0} → State → Step P State → Type 0
   StepFrom m (Goes p m1) = Grows m m1
   StepFrom m (Calls f xs k rs p m1) = Grows m m1
   StepFrom m (Returns xs m1) = Grows m m1
   StepFrom m (Stops e m1) = Grows m m1 × Allowed e
 
   -- a world that has grown, with its trace going on
-  record Leads (w w1 : World State) : Type 0 where
-    memory : Grows w.memory w1.memory
-    trace : IsPrefix w.trace w1.trace
+  pub record Leads (w w1 : World State) : Type 0 where
+    pub memory : Grows w.memory w1.memory
+    pub trace : IsPrefix w.trace w1.trace
 
-  abbrev AllowedFinish : Finish → Type 0
+  abbrev pub AllowedFinish : Finish → Type 0
   AllowedFinish (Returned xs) = Unit {0}
   AllowedFinish (Stopped e) = Allowed e
 
-  record Reaches (w : World State) (o : Outcome State) : Type 0 where
-    world : Leads w o.world
-    finish : AllowedFinish o.finish
+  pub record Reaches (w : World State) (o : Outcome State) : Type 0 where
+    pub world : Leads w o.world
+    pub finish : AllowedFinish o.finish
 
   leads_refl : (w : World State) → Leads w w
   leads_refl w = record { memory = grows_refl w.memory; trace = prefix_refl w.trace }
@@ -156,7 +156,7 @@ module _ {State : Type 0} (ask : Question → State → Reply State) (fs : List 
     steps_from p m = at_from p.spot.ops p.spot.blocks p.spot.env p.frames m
 
     -- How a run goes on reaches from where it goes on.
-    abbrev NextFrom : Next State → Type 0
+    abbrev pub NextFrom : Next State → Type 0
     NextFrom next = (p : Place) (cs : List Caller) (w : World State) → Reaches w (next p cs w)
 
     stopped_from : (e : Stop) (w : World State) → Allowed e → Reaches w (stopped e w)
@@ -228,12 +228,12 @@ module _ {State : Type 0} (ask : Question → State → Reply State) (fs : List 
       follows_from (Returns xs m) cs w g = reaches_from w (with_memory w m) _ (leads_memory w m g) (gives_from xs cs (with_memory w m))
       follows_from (Stops e m) cs w g = stops_from e w m g.0 g.1
 
-    exec_from : (n : ℕ) → NextFrom (exec ask fs n)
+    pub exec_from : (n : ℕ) → NextFrom (exec ask fs n)
     exec_from zero p cs w = stopped_from More w more_allowed
     exec_from (suc n) p cs w = follows_from (exec ask fs n) (exec_from n) (step ask p w.memory) cs w (steps_from p w.memory)
 
     -- More fuel: the run is the same, or it wanted more and its world leads on.
-    abbrev Extends : Outcome State → Outcome State → Type 0
+    abbrev pub Extends : Outcome State → Outcome State → Type 0
     Extends o longer = (longer ≡ o) ⊎ ((o.finish ≡ Stopped More) × Leads o.world longer.world)
 
     module _ (next longer : Next State) (extends : (p : Place) (cs : List Caller) (w : World State) → Extends (next p cs w) (longer p cs w)) where
@@ -268,7 +268,7 @@ module _ {State : Type 0} (ask : Question → State → Reply State) (fs : List 
       follows_more (Returns xs m) cs w = gives_more xs cs (with_memory w m)
       follows_more (Stops e m) cs w = inl refl
 
-    exec_more : (n m : ℕ) → n ≤ m → (p : Place) (cs : List Caller) (w : World State) → Extends (exec ask fs n p cs w) (exec ask fs m p cs w)
+    pub exec_more : (n m : ℕ) → n ≤ m → (p : Place) (cs : List Caller) (w : World State) → Extends (exec ask fs n p cs w) (exec ask fs m p cs w)
     exec_more zero m le p cs w = inr (refl, (exec_from m p cs w).world)
     exec_more (suc n) zero le p cs w = absurd (omega arith)
     exec_more (suc n) (suc m) le p cs w = follows_more (exec ask fs n) (exec ask fs m) (exec_more n m (omega arith)) (step ask p w.memory) cs w

@@ -2,3 +2,4 @@ pub mod Examples
 pub mod Spending
 pub mod Forms
 pub mod Fuel
+pub mod Runs

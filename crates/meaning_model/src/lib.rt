@@ -5,4 +5,4 @@
 
 mod laws;
 
-pub use laws::law_forms;
+pub use laws::{law_always_room, law_forms, law_more_fuel};
