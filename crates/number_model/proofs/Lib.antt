@@ -1,3 +1,4 @@
 pub mod Examples
 pub mod Signed
 pub mod Divisions
+pub mod Ranges
