@@ -114,3 +114,94 @@ down_below (negsuc a) (pos (suc b)) H h fa fb some high =
 down_below (negsuc a) (negsuc b) H h fa fb some high =
     let apart : have_unlike_signs (negsuc a) (negsuc b) ≡ true = are_apart _ _ high in
     absurd (true≢false (sym apart))
+
+-- At a width
+
+-- what an answer that may be undefined says
+defined : (b : Bool) (n r : ℕ) → undefined_if b (Gives n) ≡ Gives r → (b ≡ false) × (r ≡ n)
+defined true n r e = absurd (undefined_is_none e)
+  where
+    Is : Answer ℕ → Type 0
+    Is (Gives x) = ⊥
+    Is Undefined = Unit {0}
+    Is Outside = ⊥
+    undefined_is_none : {r : ℕ} → Undefined ≡ Gives r → ⊥
+    undefined_is_none e = subst Is e tt
+defined false n r e = (refl, sym (ap (given n) e))
+  where
+    given : ℕ → Answer ℕ → ℕ
+    given d (Gives x) = x
+    given d Undefined = d
+    given d Outside = d
+
+neither : (x y : Bool) → (x || y) ≡ false → (x ≡ false) × (y ≡ false)
+neither true y e = absurd (true≢false e)
+neither false y e = (refl, e)
+
+not_both : (x y : Bool) → (x && y) ≡ false → x ≡ true → y ≡ true → ⊥
+not_both true true e p q = true≢false e
+not_both true false e p q = true≢false (sym q)
+not_both false y e p q = true≢false (sym p)
+
+-- a division that is defined: the divisor is not 0, and not both are as they overflow
+record IsDefined (w : ℕ) (a b : ℤ) : Type 0 where
+  some : int_eq b (pos 0) ≡ false
+  apart : a ≡ least w → b ≡ negsuc 0 → ⊥
+
+is_defined : (w : ℕ) (a b : ℤ) → no_quotient (least w) a b ≡ false → IsDefined w a b
+is_defined w a b e =
+    let both : (int_eq b (pos 0) ≡ false) × ((int_eq a (least w) && int_eq b (negsuc 0)) ≡ false) = neither _ _ e in
+    record { some = both.0; apart = λ p q. not_both _ _ both.1 ((Decides-int_eq a (least w)).1 p) ((Decides-int_eq b (negsuc 0)).1 q) }
+
+above_zero : (b : ℤ) → int_eq b (pos 0) ≡ false → 0 < unsigned_abs b
+above_zero (pos zero) e = absurd (true≢false e)
+above_zero (pos (suc n)) e = omega arith
+above_zero (negsuc n) e = omega arith
+
+either_below : (H : ℕ) (b : Bool) (x y : ℤ) → (b ≡ true → mag x < H) → mag y < H → mag (if b then x else y) < H
+either_below H true x y h k = h refl
+either_below H false x y h k = k
+
+module _ (w : ℕ) (h : 0 < w) (a b : ℕ) (d : IsDefined w (signed w a) (signed w b)) where
+  small_quotient : mag (int_div (signed w a) (signed w b)) < 2 ^ (w - 1)
+  small_quotient = quotient_below (signed w a) (signed w b) (2 ^ (w - 1)) (half_above w) (signed_fits w a h) (signed_fits w b h) d.some d.apart
+
+  small_rest : mag (int_rem (signed w a) (signed w b)) < 2 ^ (w - 1)
+  small_rest = omega (arith, mag_rem (signed w a) (signed w b), signed_fits w a h)
+
+  small_up : mag (quotient_up (signed w a) (signed w b)) < 2 ^ (w - 1)
+  small_up =
+      either_below (2 ^ (w - 1)) (lies_below (signed w a) (signed w b)) _ _
+        (λ low. up_below (signed w a) (signed w b) (2 ^ (w - 1)) (half_above w) (signed_fits w a h) (signed_fits w b h) d.some low) small_quotient
+
+  small_down : mag (quotient_down (signed w a) (signed w b)) < 2 ^ (w - 1)
+  small_down =
+      either_below (2 ^ (w - 1)) (lies_above (signed w a) (signed w b)) _ _
+        (λ high. down_below (signed w a) (signed w b) (2 ^ (w - 1)) (half_above w) (signed_fits w a h) (signed_fits w b h) d.some high) small_quotient
+
+-- a result that is small is read back
+read_back : (w : ℕ) (z : ℤ) (q : ℕ) → 0 < w → mag z < 2 ^ (w - 1) → q ≡ wrapped w z → z ≡ signed w q
+read_back w z q h small e = sym (ap (signed w) e ∙ signed-wrapped w z h (fits_from w z small))
+
+pub divides_towards_zero : DividesTowardsZero
+divides_towards_zero w a b q r h eq er =
+    let dq : (no_quotient (least w) (signed w a) (signed w b) ≡ false) × (q ≡ wrapped w (int_div (signed w a) (signed w b))) = defined _ _ q eq in
+    let dr : (no_quotient (least w) (signed w a) (signed w b) ≡ false) × (r ≡ wrapped w (int_rem (signed w a) (signed w b))) = defined _ _ r er in
+    let d : IsDefined w (signed w a) (signed w b) = is_defined w _ _ dq.0 in
+    subst (λ y. IsDivision (signed w a) (signed w b) (signed w q) y) (read_back w _ r h (small_rest w h a b d) dr.1)
+      (subst (λ x. IsDivision (signed w a) (signed w b) x (int_rem (signed w a) (signed w b))) (read_back w _ q h (small_quotient w h a b d) dq.1)
+        (towards_zero (signed w a) (signed w b) (above_zero (signed w b) d.some)))
+
+pub divides_up : DividesUp
+divides_up w a b q h eq =
+    let dq : (no_quotient (least w) (signed w a) (signed w b) ≡ false) × (q ≡ wrapped w (quotient_up (signed w a) (signed w b))) = defined _ _ q eq in
+    let d : IsDefined w (signed w a) (signed w b) = is_defined w _ _ dq.0 in
+    subst (λ x. IsRoundedUp (signed w a) (signed w b) x) (read_back w _ q h (small_up w h a b d) dq.1)
+      (up_is (signed w a) (signed w b) (above_zero (signed w b) d.some))
+
+pub divides_down : DividesDown
+divides_down w a b q h eq =
+    let dq : (no_quotient (least w) (signed w a) (signed w b) ≡ false) × (q ≡ wrapped w (quotient_down (signed w a) (signed w b))) = defined _ _ q eq in
+    let d : IsDefined w (signed w a) (signed w b) = is_defined w _ _ dq.0 in
+    subst (λ x. IsRoundedDown (signed w a) (signed w b) x) (read_back w _ q h (small_down w h a b d) dq.1)
+      (down_is (signed w a) (signed w b) (above_zero (signed w b) d.some))
