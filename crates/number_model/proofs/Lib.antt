@@ -2,3 +2,4 @@ pub mod Examples
 pub mod Signed
 pub mod Divisions
 pub mod Ranges
+pub mod Wrapping
