@@ -2,7 +2,8 @@
 use Rattle.std.proofs.Common.{◌≡◌, ℕ, zero, suc, ◌+◌, ◌*◌, ◌-◌, ◌/◌, ◌%◌, ◌^◌, ◌<◌, ◌≤◌, refl, sym, ap, ap₂, subst, ◌∙◌, arith}
 use Rattle.std.specs.Prelude.{ℤ, pos, negsuc, neg_ℤ, ◌+ℤ◌, ◌-ℤ◌, ◌*ℤ◌}
 use Rattle.std.proofs.lemmas.Int.{ints}
-use Rattle.std.proofs.Math.Nat.{mod-lt, mod-mod, div-add-mod', add-mul-mod_self_right, add-mod, mod-eq_of_lt}
+use Rattle.std.proofs.Math.Nat.{mod-lt, mod-mod, div-add-mod', add-mul-mod_self_right, add-mod, mod-eq_of_lt, add-mul, le_of_lt}
+use Rattle.std.proofs.Math.IntN.{*ℤ_comm}
 use Rattle.std.proofs.lemmas.Nat.{mod-mul-add, mul-mod, div_below}
 use Rattle.std.proofs.Math.Pow.{pow_pos}
 use Rattle.number_model.specs.Numbers.{unsigned, wrapped}
@@ -64,3 +65,90 @@ sums w x y =
 
 pub sums_wrap : SumsWrap
 sums_wrap w x y = ap Gives (sums w x y)
+
+-- integers that are equal up to multiples
+same_up_to : (w : ℕ) (x y : ℤ) (p q : ℕ) → x +ℤ pos (p * 2 ^ w) ≡ y +ℤ pos (q * 2 ^ w) → wrapped w x ≡ wrapped w y
+same_up_to w x y p q e =
+    wrapped_is w x (p + (lift w y).times) ((lift w y).number + q * 2 ^ w) (shifted x y (p * 2 ^ w) (q * 2 ^ w) ((lift w y).times * 2 ^ w) ((p + (lift w y).times) * 2 ^ w) (lift w y).number e (lift w y).is (omega arith))
+    ∙ add-mul-mod_self_right (lift w y).number q (2 ^ w) ∙ sym (lift_is w y)
+  where
+    shifted : (x y : ℤ) (p q t s n : ℕ) → x +ℤ pos p ≡ y +ℤ pos q → y +ℤ pos t ≡ pos n → s ≡ p + t → x +ℤ pos s ≡ pos (n + q)
+    shifted x y p q t s n e f g = omega (arith, ints)
+
+-- the negative
+negative_of : (y : ℤ) (q n k r m t : ℕ) → y +ℤ pos q ≡ pos n → k + r ≡ n → t ≡ k + m → r ≤ m → neg_ℤ y +ℤ pos t ≡ neg_ℤ (pos r) +ℤ pos (q + m)
+negative_of y q n k r m t e d s le = omega (arith, ints)
+
+negatives_at : (w : ℕ) (y : ℤ) (q n : ℕ) → y +ℤ pos (q * 2 ^ w) ≡ pos n → wrapped w (neg_ℤ (pos (n % 2 ^ w))) ≡ wrapped w (neg_ℤ y)
+negatives_at w y q n e =
+    sym (same_up_to w (neg_ℤ y) (neg_ℤ (pos (n % 2 ^ w))) (suc (n / 2 ^ w)) (q + 1)
+      (negative_of y (q * 2 ^ w) n (n / 2 ^ w * 2 ^ w) (n % 2 ^ w) (2 ^ w) (suc (n / 2 ^ w) * 2 ^ w) e (div-add-mod' n (2 ^ w)) (omega arith) (le_of_lt (mod-lt n (pow_pos w)))
+       ∙ ap (λ t. neg_ℤ (pos (n % 2 ^ w)) +ℤ pos t) (omega arith)))
+
+negatives : (w : ℕ) (y : ℤ) → wrapped w (neg_ℤ (pos (unsigned w (wrapped w y)))) ≡ wrapped w (neg_ℤ y)
+negatives w y = ap (λ r. wrapped w (neg_ℤ (pos r))) (twice w y) ∙ negatives_at w y (lift w y).times (lift w y).number (lift w y).is
+
+differences : (w : ℕ) (x y : ℤ) → wrapped w (pos (unsigned w (wrapped w x)) -ℤ pos (unsigned w (wrapped w y))) ≡ wrapped w (x -ℤ y)
+differences w x y =
+    sym (sums w (pos (unsigned w (wrapped w x))) (neg_ℤ (pos (unsigned w (wrapped w y)))))
+    ∙ ap₂ (λ k l. wrapped w (pos (k % 2 ^ w) +ℤ pos (l % 2 ^ w))) (mod-mod (wrapped w x) (2 ^ w) ∙ self) (negatives w y)
+    ∙ sums w x (neg_ℤ y)
+  where
+    self : wrapped w x % 2 ^ w ≡ wrapped w x
+    self = twice w x ∙ sym (lift_is w x)
+
+pub differences_wrap : DifferencesWrap
+differences_wrap w x y = ap Gives (differences w x y)
+
+-- a product with an integer, and with what lifts it
+times_pos : (x : ℤ) (p k b s : ℕ) → x +ℤ pos p ≡ pos k → s ≡ p * b → x *ℤ pos b +ℤ pos s ≡ pos k *ℤ pos b
+times_pos (pos a) p k b s e f = let d : a + p ≡ k = omega (arith, ints) in ap pos (ap (λ t. a * b + t) f ∙ sym (add-mul a p b) ∙ ap (λ t. t * b) d)
+times_pos (negsuc a) p k b s e f =
+    let d : k + suc a ≡ p = omega (arith, ints) in
+    let g : k * b + suc a * b ≡ s = sym (add-mul k (suc a) b) ∙ ap (λ t. t * b) d ∙ sym f in
+    from_product (suc a * b) (k * b) s g
+  where
+    from_product : (u v s : ℕ) → v + u ≡ s → neg_ℤ (pos u) +ℤ pos s ≡ pos v
+    from_product u v s g = omega (arith, ints)
+
+times_neg : (x : ℤ) (p k b s : ℕ) → x +ℤ pos p ≡ pos k → s ≡ p * suc b → pos k *ℤ negsuc b +ℤ pos s ≡ x *ℤ negsuc b
+times_neg (pos a) p k b s e f =
+    let d : a + p ≡ k = omega (arith, ints) in
+    let g : a * suc b + s ≡ k * suc b = ap (λ t. a * suc b + t) f ∙ sym (add-mul a p (suc b)) ∙ ap (λ t. t * suc b) d in
+    from_product (a * suc b) (k * suc b) s g
+  where
+    from_product : (u v s : ℕ) → u + s ≡ v → neg_ℤ (pos v) +ℤ pos s ≡ neg_ℤ (pos u)
+    from_product u v s g = omega (arith, ints)
+times_neg (negsuc a) p k b s e f =
+    let d : k + suc a ≡ p = omega (arith, ints) in
+    let g : k * suc b + suc a * suc b ≡ s = sym (add-mul k (suc a) (suc b)) ∙ ap (λ t. t * suc b) d ∙ sym f in
+    from_product (suc a * suc b) (k * suc b) s g
+  where
+    from_product : (u v s : ℕ) → v + u ≡ s → neg_ℤ (pos v) +ℤ pos s ≡ pos u
+    from_product u v s g = omega (arith, ints)
+
+product_lifts : (w : ℕ) (x y : ℤ) → wrapped w (x *ℤ y) ≡ wrapped w (pos (lift w x).number *ℤ y)
+product_lifts w x (pos b) =
+    same_up_to w (x *ℤ pos b) (pos (lift w x).number *ℤ pos b) ((lift w x).times * b) 0
+      (times_pos x ((lift w x).times * 2 ^ w) (lift w x).number b _ (lift w x).is (omega arith) ∙ nothing (pos (lift w x).number *ℤ pos b) (0 * 2 ^ w) (omega arith))
+  where
+    nothing : (z : ℤ) (k : ℕ) → k ≡ 0 → z ≡ z +ℤ pos k
+    nothing z k e = omega (arith, ints)
+product_lifts w x (negsuc b) =
+    sym (same_up_to w (pos (lift w x).number *ℤ negsuc b) (x *ℤ negsuc b) ((lift w x).times * suc b) 0
+      (times_neg x ((lift w x).times * 2 ^ w) (lift w x).number b _ (lift w x).is (omega arith) ∙ nothing (x *ℤ negsuc b) (0 * 2 ^ w) (omega arith)))
+  where
+    nothing : (z : ℤ) (k : ℕ) → k ≡ 0 → z ≡ z +ℤ pos k
+    nothing z k e = omega (arith, ints)
+
+products : (w : ℕ) (x y : ℤ) → wrapped w (pos (unsigned w (wrapped w x)) *ℤ pos (unsigned w (wrapped w y))) ≡ wrapped w (x *ℤ y)
+products w x y =
+    ap₂ (λ k l. (k * l) % 2 ^ w) (twice w x) (twice w y)
+    ∙ sym (mul-mod (lift w x).number (lift w y).number (2 ^ w))
+    ∙ ap (wrapped w) (*ℤ_comm (pos (lift w x).number) (pos (lift w y).number))
+    ∙ sym (product_lifts w y (pos (lift w x).number))
+    ∙ ap (wrapped w) (*ℤ_comm y (pos (lift w x).number))
+    ∙ sym (product_lifts w x y)
+
+pub products_wrap : ProductsWrap
+products_wrap w x y = ap Gives (products w x y)
