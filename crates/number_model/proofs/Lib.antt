@@ -3,3 +3,4 @@ pub mod Signed
 pub mod Divisions
 pub mod Ranges
 pub mod Wrapping
+pub mod Widths

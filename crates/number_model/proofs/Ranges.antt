@@ -56,7 +56,7 @@ below_neg zero H lt = lt
 below_neg (suc k) H lt = omega arith
 
 -- a quotient that is rounded up from below, and one that is rounded down from above: the remainder is not 0, so the divisor is 2 or more
-wide : (k b r n : ℕ) → k * b + r ≡ n → (r ≡ 0 → ⊥) → r < b → 2 * k + 1 ≤ n
+pub wide : (k b r n : ℕ) → k * b + r ≡ n → (r ≡ 0 → ⊥) → r < b → 2 * k + 1 ≤ n
 wide k b zero n e some lt = absurd (some refl)
 wide k zero (suc r) n e some lt = absurd (omega arith)
 wide k (suc zero) (suc r) n e some lt = absurd (omega arith)
@@ -104,7 +104,7 @@ up_below (negsuc a) (negsuc (suc b)) H h fa fb some low =
 
 down_below : (a b : ℤ) (H : ℕ) → 0 < H → mag a < H → mag b < H → int_eq b (pos 0) ≡ false → lies_above a b ≡ true → mag (int_div a b -ℤ pos 1) < H
 down_below (pos a) (pos b) H h fa fb some high =
-    let apart : have_unlike_signs (pos a) (pos b) ≡ true = are_apart _ _ high in
+    let apart : have_unlike_signs (pos a) (pos b) ≡ true = are_apart (not (int_eq (int_rem (pos a) (pos b)) (pos 0))) (have_unlike_signs (pos a) (pos b)) high in
     absurd (grind arith)
 down_below (pos a) (negsuc b) H h fa fb some high = below_neg (a / suc b) H (omega (arith, div-le_self a (suc b)))
 down_below (negsuc a) (pos zero) H h fa fb some high = absurd (true≢false some)

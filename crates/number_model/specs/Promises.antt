@@ -1,12 +1,27 @@
--- Laws of the arithmetic. Numbers have a width of at least one bit.
-use Rattle.std.specs.Prelude.{◌≡◌, ◌⊎◌, ℕ, ◌<◌, ◌^◌, Bool, true, ℤ, pos, ◌+ℤ◌, ◌-ℤ◌, ◌*ℤ◌, int_lt, unsigned_abs}
+-- Laws of the arithmetic.
+use Rattle.std.specs.Prelude.{◌≡◌, ◌⊎◌, ℕ, ◌<◌, ◌≤◌, ◌^◌, ⊤, ℤ, pos, ◌+ℤ◌, ◌-ℤ◌, ◌*ℤ◌, int_lt, unsigned_abs}
 use Rattle.number_model.specs.Numbers.{signed, wrapped}
 use Rattle.number_model.specs.Answers.{Gives}
-use Rattle.number_model.specs.Arithmetic.{no_flags, Binary, Add, Subtract, Multiply, Divide, Remainder, DivideUp, DivideDown, binary}
+use Rattle.number_model.specs.Arithmetic.{no_flags, Binary, Add, Subtract, Multiply, Divide, Remainder, DivideUp, DivideDown, binary, Resize, ExtendSigned, Extend, Truncate, Keep, resize}
 
 -- an operation gives a number of its width
 abbrev pub StaysInWidth : Type 0
-StaysInWidth = (o : Binary) (w a b r : ℕ) → 0 < w → a < 2 ^ w → b < 2 ^ w → binary o w a b ≡ Gives r → r < 2 ^ w
+StaysInWidth = (o : Binary) (w a b r : ℕ) → a < 2 ^ w → b < 2 ^ w → binary o w a b ≡ Gives r → r < 2 ^ w
+
+-- the width of what a number of this width becomes
+abbrev pub target : Resize → ℕ → ℕ
+target (ExtendSigned m) w = m
+target (Extend m) w = m
+target (Truncate flags m) w = m
+target Keep w = w
+
+-- a number is extended to a width that isn't less
+abbrev pub Fits : Resize → ℕ → Type 0
+Fits (Extend m) w = w ≤ m
+Fits _ w = ⊤
+
+abbrev pub ResizesToWidth : Type 0
+ResizesToWidth = (x : Resize) (w a r : ℕ) → Fits x w → a < 2 ^ w → resize x w a ≡ Gives r → r < 2 ^ target x w
 
 -- without flags, sums, differences and products are those of the integers, modulo 2 to the width
 abbrev pub SumsWrap : Type 0
