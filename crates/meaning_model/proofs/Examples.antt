@@ -4,7 +4,7 @@ use Rattle.std.specs.Prelude.{map, ℤ, pos, negsuc, codes}
 use Rattle.number_model.specs.Numbers.{wrapped}
 use Rattle.number_model.specs.Arithmetic.{no_flags, Binary, Add, DivideUp, BelowUnsigned, Below}
 use Rattle.meaning_model.specs.Values.{Value, Integer, Unset, together}
-use Rattle.meaning_model.specs.Pures.{Known, TwoNumbers, Compares, TakesSize, MovesPointer}
+use Rattle.meaning_model.specs.Pures.{Known, TwoNumbers, Compares, Selects, Moves}
 use Rattle.meaning_model.specs.Calling.{Bare, Together}
 use Rattle.meaning_model.specs.Forms.{Form, Computes, Branch, BranchOn, Call, Return, Load, Store, Allocate, AllocateAligned, Free, NewMemref, EndMemref, LoadElement, StoreElement, If, For, While, Switch, Execute, Yield, Condition, Unknown}
 use Rattle.meaning_model.specs.Codes.{Ops, OpsEnd, Op, Blocks, BlocksEnd, Block, Regions, RegionsEnd, Region, Face, Function}
@@ -16,24 +16,24 @@ use Rattle.meaning_model.specs.Meaning.{End, Done, Stops, Result, structured, st
 -- Functions of the examples
 
 -- an operation without regions and successors
-abbrev op : Form → List ℕ → List ℕ → Ops → Ops
+abbrev pub op : Form → List ℕ → List ℕ → Ops → Ops
 op form rs os rest = Op form rs os [] RegionsEnd rest
 
 -- an integer of 32 bits under a number
-abbrev constant : ℕ → ℤ → Ops → Ops
+abbrev pub constant : ℕ → ℤ → Ops → Ops
 constant r z rest = op (Computes (Known (Integer (wrapped 32 z)))) (r ∷ []) [] rest
 
-abbrev add : ℕ → ℕ → ℕ → Ops → Ops
+abbrev pub add : ℕ → ℕ → ℕ → Ops → Ops
 add r a b rest = op (Computes (TwoNumbers (Add no_flags) 32)) (r ∷ []) (a ∷ b ∷ []) rest
 
-abbrev region : List ℕ → Ops → Regions → Regions
+abbrev pub region : List ℕ → Ops → Regions → Regions
 region args ops rest = Region (Block 0 args ops BlocksEnd) rest
 
-abbrev returns : List ℕ → Ops
+abbrev pub returns : List ℕ → Ops
 returns os = op (Return Bare) [] os OpsEnd
 
 -- a function of integers of 32 bits with these arguments and one result
-abbrev function : List ℕ → List ℕ → Ops → Function
+abbrev pub function : List ℕ → List ℕ → Ops → Function
 function widths args ops = record {
   name = codes "f";
   face = record { inputs = Some widths; outputs = Some (32 ∷ []); packing = Bare };
@@ -42,16 +42,16 @@ function widths args ops = record {
 }
 
 -- what a function comes to with so much fuel: by S, by its machine, and by L with 256 cells
-abbrev by_s : List Function → List ℤ → ℕ → Result Heap
+abbrev pub by_s : List Function → List ℤ → ℕ → Result Heap
 by_s fs args fuel = structured fs (codes "f") args [] fuel
 
-abbrev s_end : List Function → List ℤ → ℕ → End
+abbrev pub s_end : List Function → List ℤ → ℕ → End
 s_end fs args fuel = (by_s fs args fuel).end
 
-abbrev machine_end : List Function → List ℤ → ℕ → End
+abbrev pub machine_end : List Function → List ℤ → ℕ → End
 machine_end fs args fuel = (stepped ask_heap no_heap fs (codes "f") args [] fuel).end
 
-abbrev l_end : List Function → List ℤ → ℕ → End
+abbrev pub l_end : List Function → List ℤ → ℕ → End
 l_end fs args fuel = (stepped ask_cells (no_cells 256) fs (codes "f") args [] fuel).end
 
 -- A loop from -2 to 3 by 2 that begins with 0 and adds 5: three rounds, 15 operations.
@@ -74,3 +74,156 @@ loop_wants_fuel = refl
 
 loop_without_a_step : s_end (loop_by (pos 0)) [] 15 ≡ Stops Undefined
 loop_without_a_step = refl
+
+loop_wants_fuel_by_the_machine : machine_end (loop_by (pos 2)) [] 14 ≡ Stops More
+loop_wants_fuel_by_the_machine = refl
+
+-- a step that passes the signed range behind the last round
+loop_that_overflows : s_end (loop_by (pos 2147483647)) [] 15 ≡ Done (pos 5 ∷ [])
+loop_that_overflows = refl
+
+-- Choices
+
+-- the greater of two arguments, by a region that yields and one that is taken else
+abbrev greater : List Function
+greater =
+    function (32 ∷ 32 ∷ []) (0 ∷ 1 ∷ [])
+      (op (Computes (Compares Below 32)) (2 ∷ []) (0 ∷ 1 ∷ [])
+      (Op If (3 ∷ []) (2 ∷ []) [] (region [] (op Yield [] (1 ∷ []) OpsEnd) (region [] (op Yield [] (0 ∷ []) OpsEnd) RegionsEnd))
+      (returns (3 ∷ [])))) ∷ []
+
+greater_is_the_second : s_end greater (negsuc 6 ∷ pos 2 ∷ []) 4 ≡ Done (pos 2 ∷ [])
+greater_is_the_second = refl
+
+greater_is_the_first : s_end greater (pos 7 ∷ pos 2 ∷ []) 4 ≡ Done (pos 7 ∷ [])
+greater_is_the_first = refl
+
+-- an argument is a signed or an unsigned number of its width
+unsigned_argument : s_end greater (pos 4294967295 ∷ negsuc 1 ∷ []) 4 ≡ Done (negsuc 0 ∷ [])
+unsigned_argument = refl
+
+argument_out_of_range : s_end greater (pos 4294967296 ∷ pos 2 ∷ []) 0 ≡ Stops Outside
+argument_out_of_range = refl
+
+too_few_arguments : s_end greater (pos 7 ∷ []) 4 ≡ Stops Outside
+too_few_arguments = refl
+
+-- an empty second region gives no values at once
+abbrev without_else : List Function
+without_else =
+    function (1 ∷ []) (0 ∷ [])
+      (Op If [] (0 ∷ []) [] (region [] (op Yield [] [] OpsEnd) (Region BlocksEnd RegionsEnd))
+      (constant 1 (pos 9) (returns (1 ∷ [])))) ∷ []
+
+taken_region : s_end without_else (pos 1 ∷ []) 4 ≡ Done (pos 9 ∷ [])
+taken_region = refl
+
+empty_region : s_end without_else (pos 0 ∷ []) 3 ≡ Done (pos 9 ∷ [])
+empty_region = refl
+
+-- the first case that is equal modulo 2 to the width, else the first region
+abbrev switched : List Function
+switched =
+    function (32 ∷ []) (0 ∷ [])
+      (Op (Switch 32 (pos 4 ∷ negsuc 0 ∷ [])) (1 ∷ []) (0 ∷ []) []
+        (region [] (constant 2 (pos 100) (op Yield [] (2 ∷ []) OpsEnd))
+        (region [] (constant 2 (pos 104) (op Yield [] (2 ∷ []) OpsEnd))
+        (region [] (constant 2 (pos 99) (op Yield [] (2 ∷ []) OpsEnd)) RegionsEnd)))
+      (returns (1 ∷ []))) ∷ []
+
+first_case : s_end switched (pos 4 ∷ []) 4 ≡ Done (pos 104 ∷ [])
+first_case = refl
+
+second_case : s_end switched (pos 4294967295 ∷ []) 4 ≡ Done (pos 99 ∷ [])
+second_case = refl
+
+no_case : s_end switched (pos 5 ∷ []) 4 ≡ Done (pos 100 ∷ [])
+no_case = refl
+
+-- a region of blocks: it counts up to the argument
+abbrev blocks_of_a_region : List Function
+blocks_of_a_region =
+    function (32 ∷ []) (0 ∷ [])
+      (Op Execute (9 ∷ []) [] []
+        (Region
+          (Block 1 [] (constant 1 (pos 0) (Op Branch [] (1 ∷ []) (2 ∷ []) RegionsEnd OpsEnd))
+          (Block 2 (2 ∷ []) (op (Computes (Compares BelowUnsigned 32)) (3 ∷ []) (2 ∷ 0 ∷ []) (Op (BranchOn 1 0) [] (3 ∷ 2 ∷ []) (3 ∷ 4 ∷ []) RegionsEnd OpsEnd))
+          (Block 3 (4 ∷ []) (constant 5 (pos 1) (add 6 4 5 (Op Branch [] (6 ∷ []) (2 ∷ []) RegionsEnd OpsEnd)))
+          (Block 4 [] (op Yield [] (2 ∷ []) OpsEnd) BlocksEnd)))) RegionsEnd)
+      (returns (9 ∷ []))) ∷ []
+
+counts_up : s_end blocks_of_a_region (pos 3 ∷ []) 22 ≡ Done (pos 3 ∷ [])
+counts_up = refl
+
+counts_up_by_cells : l_end blocks_of_a_region (pos 3 ∷ []) 22 ≡ Done (pos 3 ∷ [])
+counts_up_by_cells = refl
+
+-- What was never set
+
+abbrev with_unset : Ops → List Function
+with_unset ops = function [] [] (op (Computes (Known Unset)) (0 ∷ []) [] (constant 1 (pos 1) ops)) ∷ []
+
+unset_is_added : s_end (with_unset (add 2 0 1 (returns (2 ∷ [])))) [] 9 ≡ Stops Undefined
+unset_is_added = refl
+
+unset_is_returned : s_end (with_unset (returns (0 ∷ []))) [] 9 ≡ Stops Undefined
+unset_is_returned = refl
+
+unset_moves : s_end (with_unset (op (Computes Selects) (3 ∷ []) (1 ∷ 1 ∷ 0 ∷ []) (returns (3 ∷ [])))) [] 9 ≡ Done (pos 1 ∷ [])
+unset_moves = refl
+
+unset_condition : s_end (with_unset (op (Computes Selects) (3 ∷ []) (0 ∷ 1 ∷ 1 ∷ []) (returns (3 ∷ [])))) [] 9 ≡ Stops Undefined
+unset_condition = refl
+
+-- No meaning
+
+abbrev unknown : List Function
+unknown = function [] [] (op Unknown (0 ∷ []) [] (returns (0 ∷ []))) ∷ []
+
+unknown_is_outside : s_end unknown [] 1 ≡ Stops Outside
+unknown_is_outside = refl
+
+-- fuel comes first
+unknown_without_fuel : s_end unknown [] 0 ≡ Stops More
+unknown_without_fuel = refl
+
+no_such_function : s_end [] [] 1 ≡ Stops Outside
+no_such_function = refl
+
+-- Calls
+
+-- a loop from 0 to 2 round a loop that starts at 0, goes on while below 2, calls `tick` with its number and adds 1
+abbrev ticks : List Function
+ticks =
+    function [] []
+      (constant 0 (pos 0) (constant 1 (pos 2) (constant 2 (pos 1)
+      (Op (For 32) [] (0 ∷ 1 ∷ 2 ∷ []) []
+        (region (3 ∷ [])
+          (Op While (4 ∷ []) (0 ∷ []) []
+            (region (5 ∷ []) (op (Computes (Compares Below 32)) (6 ∷ []) (5 ∷ 1 ∷ []) (op Condition [] (6 ∷ 5 ∷ []) OpsEnd))
+            (region (7 ∷ []) (op (Call (codes "tick") (None ∷ []) Bare) (8 ∷ []) (7 ∷ []) (add 9 7 2 (op Yield [] (9 ∷ []) OpsEnd))) RegionsEnd))
+          (op Yield [] [] OpsEnd)) RegionsEnd)
+      (returns (0 ∷ [])))))) ∷
+    record { name = codes "tick"; face = record { inputs = Some (32 ∷ []); outputs = Some (32 ∷ []); packing = Bare }; shapes = None ∷ []; body = BlocksEnd } ∷ []
+
+abbrev tick : ℤ → ExternalCall
+tick z = record { name = codes "tick"; args = z ∷ []; answers = pos 0 ∷ [] }
+
+ticks_are_done : s_end ticks [] 100 ≡ Done (pos 0 ∷ [])
+ticks_are_done = refl
+
+ticks_in_order : (by_s ticks [] 100).trace ≡ tick (pos 0) ∷ tick (pos 1) ∷ tick (pos 0) ∷ tick (pos 1) ∷ []
+ticks_in_order = refl
+
+first_tick : (by_s ticks [] 9).trace ≡ tick (pos 0) ∷ []
+first_tick = refl
+
+-- a function that calls itself without end
+abbrev endless : List Function
+endless = function [] [] (op (Call (codes "f") [] Bare) (0 ∷ []) [] (returns (0 ∷ []))) ∷ []
+
+endless_wants_fuel : s_end endless [] 50 ≡ Stops More
+endless_wants_fuel = refl
+
+endless_by_the_machine : machine_end endless [] 50 ≡ Stops More
+endless_by_the_machine = refl

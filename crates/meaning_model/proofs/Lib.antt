@@ -1,4 +1,5 @@
 pub mod Examples
+pub mod MemoryExamples
 pub mod Spending
 pub mod Forms
 pub mod Fuel

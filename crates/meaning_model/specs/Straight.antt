@@ -1,6 +1,6 @@
 -- What each operation without regions does.
 use Rattle.std.specs.Prelude.{ℕ, zero, suc, ◌+◌, ◌*◌, ◌%◌, ◌^◌, ◌-◌, ◌==◌, nat_lt, nat_le, Bool, true, false, not, ◌&&◌, ◌||◌, List, [], ◌∷◌, length, take, drop, Option, Some, None, if◌then◌else◌}
-use Rattle.std.specs.Int.{is_power_of_two}
+use Rattle.std.specs.List.{list_any}
 use Rattle.number_model.specs.Numbers.{unsigned}
 use Rattle.number_model.specs.Answers.{Answer, Gives, Outside, and_then, with_answer, undefined_if}
 use Rattle.meaning_model.specs.Values.{Value, Integer, Place, place_of, number, part_at, allocated_path, descriptor}
@@ -33,9 +33,12 @@ store w x p = on (number x) (λ n. on (place_of p) (λ place. Asks (question.Sto
 abbrev pub allocate : Value → Doing
 allocate x = on (number x) (λ n. Asks (question.Allocate 1 (unsigned 64 n)) Ends)
 
--- an alignment is a power of two from 1 to 4096
+-- the alignments: the powers of two from 1 to 4096
+abbrev pub alignments : List ℕ
+alignments = 1 ∷ 2 ∷ 4 ∷ 8 ∷ 16 ∷ 32 ∷ 64 ∷ 128 ∷ 256 ∷ 512 ∷ 1024 ∷ 2048 ∷ 4096 ∷ []
+
 abbrev pub is_alignment : ℕ → Bool
-is_alignment n = nat_le n 4096 && is_power_of_two n
+is_alignment n = list_any (λ k. k == n) alignments
 
 -- undefined where the alignment is none, or the size no multiple of it
 abbrev pub allocate_at : ℕ → ℕ → Doing
