@@ -54,14 +54,18 @@ machine_end fs args fuel = (stepped ask_heap no_heap fs (codes "f") args [] fuel
 abbrev pub l_end : List Function → List ℤ → ℕ → End
 l_end fs args fuel = (stepped ask_cells (no_cells 256) fs (codes "f") args [] fuel).end
 
--- A loop from -2 to 3 by 2 that begins with 0 and adds 5: three rounds, 15 operations.
-abbrev loop_by : ℤ → List Function
-loop_by by =
+-- a loop that begins with 0 and adds 5
+abbrev loop_of : ℤ → ℤ → ℤ → List Function
+loop_of lower upper by =
     function [] []
-      (constant 0 (negsuc 1) (constant 1 (pos 3) (constant 2 by (constant 3 (pos 0)
+      (constant 0 lower (constant 1 upper (constant 2 by (constant 3 (pos 0)
       (Op (For 32) (4 ∷ []) (0 ∷ 1 ∷ 2 ∷ 3 ∷ []) []
         (region (5 ∷ 6 ∷ []) (constant 7 (pos 5) (add 8 6 7 (op Yield [] (8 ∷ []) OpsEnd))) RegionsEnd)
       (returns (4 ∷ []))))))) ∷ []
+
+-- from -2 to 3: by 2 it has three rounds, 15 operations
+abbrev loop_by : ℤ → List Function
+loop_by by = loop_of (negsuc 1) (pos 3) by
 
 loop_is_done : s_end (loop_by (pos 2)) [] 15 ≡ Done (pos 15 ∷ [])
 loop_is_done = refl
@@ -78,9 +82,19 @@ loop_without_a_step = refl
 loop_wants_fuel_by_the_machine : machine_end (loop_by (pos 2)) [] 14 ≡ Stops More
 loop_wants_fuel_by_the_machine = refl
 
--- a step that passes the signed range behind the last round
-loop_that_overflows : s_end (loop_by (pos 2147483647)) [] 15 ≡ Done (pos 5 ∷ [])
+-- a number behind the last round that passes the signed range
+loop_that_overflows : s_end (loop_of (pos 1) (pos 3) (pos 2147483647)) [] 15 ≡ Stops Undefined
 loop_that_overflows = refl
+
+last_number_in_range : s_end (loop_of (pos 0) (pos 3) (pos 2147483647)) [] 15 ≡ Done (pos 5 ∷ [])
+last_number_in_range = refl
+
+loop_without_a_round : s_end (loop_of (pos 3) (pos 3) (pos 1)) [] 6 ≡ Done (pos 0 ∷ [])
+loop_without_a_round = refl
+
+-- bounds are signed
+loop_below_zero : s_end (loop_of (negsuc 0) (pos 0) (pos 1)) [] 9 ≡ Done (pos 5 ∷ [])
+loop_below_zero = refl
 
 -- Choices
 

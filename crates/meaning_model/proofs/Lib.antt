@@ -1,5 +1,6 @@
 pub mod Examples
 pub mod MemoryExamples
+pub mod ClassExamples
 pub mod Spending
 pub mod Forms
 pub mod Fuel
