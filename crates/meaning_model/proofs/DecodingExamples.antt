@@ -29,18 +29,18 @@ region_of bits values = fold-RegionTree (Blocks → Blocks) (Ops → Ops) (Regio
 
 -- an operation, a block and a region, in front of what stands behind
 code_of-op : (bits : ℕ) (values : Values) (o : OpTree-F BlockTree OpTree RegionTree) (rest : Ops)
-  → code_of bits values (roll-OpTree o) rest
+    → code_of bits values (roll-OpTree o) rest
     ≡ op_code bits values (record { name = o.name; results = o.results; operands = o.operands; props = o.props; attrs = o.attrs; regions = map (region_of bits values) o.regions; successors = o.successors }) rest
 unfolding code_of
 code_of-op bits values o rest = ap (λ f. f rest) (fold-roll-OpTree (Blocks → Blocks) (Ops → Ops) (Regions → Regions) block_code (op_code bits values) region_code o)
 
 block_of-block : (bits : ℕ) (values : Values) (b : BlockTree-F BlockTree OpTree RegionTree) (more : Blocks)
-  → block_of bits values (roll-BlockTree b) more ≡ block_code (record { label = b.label; args = b.args; ops = map (code_of bits values) b.ops }) more
+    → block_of bits values (roll-BlockTree b) more ≡ block_code (record { label = b.label; args = b.args; ops = map (code_of bits values) b.ops }) more
 unfolding code_of
 block_of-block bits values b more = ap (λ f. f more) (fold-roll-BlockTree (Blocks → Blocks) (Ops → Ops) (Regions → Regions) block_code (op_code bits values) region_code b)
 
 region_of-region : (bits : ℕ) (values : Values) (r : RegionTree-F BlockTree OpTree RegionTree) (more : Regions)
-  → region_of bits values (roll-RegionTree r) more ≡ region_code (record { blocks = map (block_of bits values) r.blocks }) more
+    → region_of bits values (roll-RegionTree r) more ≡ region_code (record { blocks = map (block_of bits values) r.blocks }) more
 region_of-region bits values r more = ap (λ f. f more) (fold-roll-RegionTree (Blocks → Blocks) (Ops → Ops) (Regions → Regions) block_code (op_code bits values) region_code r)
 
 abbrev i32 : TypeTree
@@ -83,7 +83,7 @@ back_is : (rest : Ops) → code_of 64 values back rest ≡ Op (Return Bare) [] (
 back_is rest = code_of-op 64 values _ rest ∙ ap (λ f. Op f [] (2 ∷ []) [] RegionsEnd rest) (unfold form_of in refl)
 
 body_is : (more : Regions) → in_front (map (region_of 64 values) (roll-RegionTree (record { blocks = roll-BlockTree (record { label = 7; args = (0, i32) ∷ []; ops = one ∷ sum ∷ back ∷ [] }) ∷ [] }) ∷ [])) more
-  ≡ Region (Block 7 (0 ∷ []) (Op (Computes (Known (Integer 1))) (1 ∷ []) [] [] RegionsEnd (Op (Computes (TwoNumbers (Add no_flags) 32)) (2 ∷ []) (0 ∷ 1 ∷ []) [] RegionsEnd (Op (Return Bare) [] (2 ∷ []) [] RegionsEnd OpsEnd))) BlocksEnd) more
+    ≡ Region (Block 7 (0 ∷ []) (Op (Computes (Known (Integer 1))) (1 ∷ []) [] [] RegionsEnd (Op (Computes (TwoNumbers (Add no_flags) 32)) (2 ∷ []) (0 ∷ 1 ∷ []) [] RegionsEnd (Op (Return Bare) [] (2 ∷ []) [] RegionsEnd OpsEnd))) BlocksEnd) more
 body_is more =
     region_of-region 64 values _ more
     ∙ ap (λ b. Region b more) (block_of-block 64 values _ BlocksEnd ∙ ap (λ ops. Block 7 (0 ∷ []) ops BlocksEnd) (one_is _ ∙ ap (λ ops. Op (Computes (Known (Integer 1))) (1 ∷ []) [] [] RegionsEnd ops) (sum_is _ ∙ ap (λ ops. Op (Computes (TwoNumbers (Add no_flags) 32)) (2 ∷ []) (0 ∷ 1 ∷ []) [] RegionsEnd ops) (back_is OpsEnd))))

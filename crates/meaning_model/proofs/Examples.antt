@@ -58,10 +58,10 @@ l_end fs args fuel = (stepped ask_cells (no_cells 256) fs (codes "f") args [] fu
 abbrev loop_of : ℤ → ℤ → ℤ → List Function
 loop_of lower upper by =
     function [] []
-      (constant 0 lower (constant 1 upper (constant 2 by (constant 3 (pos 0)
-      (Op (For 32) (4 ∷ []) (0 ∷ 1 ∷ 2 ∷ 3 ∷ []) []
-        (region (5 ∷ 6 ∷ []) (constant 7 (pos 5) (add 8 6 7 (op Yield [] (8 ∷ []) OpsEnd))) RegionsEnd)
-      (returns (4 ∷ []))))))) ∷ []
+    (constant 0 lower (constant 1 upper (constant 2 by (constant 3 (pos 0)
+    (Op (For 32) (4 ∷ []) (0 ∷ 1 ∷ 2 ∷ 3 ∷ []) []
+    (region (5 ∷ 6 ∷ []) (constant 7 (pos 5) (add 8 6 7 (op Yield [] (8 ∷ []) OpsEnd))) RegionsEnd)
+    (returns (4 ∷ []))))))) ∷ []
 
 -- from -2 to 3: by 2 it has three rounds, 15 operations
 abbrev loop_by : ℤ → List Function
@@ -102,9 +102,9 @@ loop_below_zero = refl
 abbrev greater : List Function
 greater =
     function (32 ∷ 32 ∷ []) (0 ∷ 1 ∷ [])
-      (op (Computes (Compares Below 32)) (2 ∷ []) (0 ∷ 1 ∷ [])
-      (Op If (3 ∷ []) (2 ∷ []) [] (region [] (op Yield [] (1 ∷ []) OpsEnd) (region [] (op Yield [] (0 ∷ []) OpsEnd) RegionsEnd))
-      (returns (3 ∷ [])))) ∷ []
+    (op (Computes (Compares Below 32)) (2 ∷ []) (0 ∷ 1 ∷ [])
+    (Op If (3 ∷ []) (2 ∷ []) [] (region [] (op Yield [] (1 ∷ []) OpsEnd) (region [] (op Yield [] (0 ∷ []) OpsEnd) RegionsEnd))
+    (returns (3 ∷ [])))) ∷ []
 
 greater_is_the_second : s_end greater (negsuc 6 ∷ pos 2 ∷ []) 4 ≡ Done (pos 2 ∷ [])
 greater_is_the_second = refl
@@ -126,8 +126,8 @@ too_few_arguments = refl
 abbrev without_else : List Function
 without_else =
     function (1 ∷ []) (0 ∷ [])
-      (Op If [] (0 ∷ []) [] (region [] (op Yield [] [] OpsEnd) (Region BlocksEnd RegionsEnd))
-      (constant 1 (pos 9) (returns (1 ∷ [])))) ∷ []
+    (Op If [] (0 ∷ []) [] (region [] (op Yield [] [] OpsEnd) (Region BlocksEnd RegionsEnd))
+    (constant 1 (pos 9) (returns (1 ∷ [])))) ∷ []
 
 taken_region : s_end without_else (pos 1 ∷ []) 4 ≡ Done (pos 9 ∷ [])
 taken_region = refl
@@ -139,11 +139,11 @@ empty_region = refl
 abbrev switched : List Function
 switched =
     function (32 ∷ []) (0 ∷ [])
-      (Op (Switch 32 (pos 4 ∷ negsuc 0 ∷ [])) (1 ∷ []) (0 ∷ []) []
-        (region [] (constant 2 (pos 100) (op Yield [] (2 ∷ []) OpsEnd))
-        (region [] (constant 2 (pos 104) (op Yield [] (2 ∷ []) OpsEnd))
-        (region [] (constant 2 (pos 99) (op Yield [] (2 ∷ []) OpsEnd)) RegionsEnd)))
-      (returns (1 ∷ []))) ∷ []
+    (Op (Switch 32 (pos 4 ∷ negsuc 0 ∷ [])) (1 ∷ []) (0 ∷ []) []
+    (region [] (constant 2 (pos 100) (op Yield [] (2 ∷ []) OpsEnd))
+    (region [] (constant 2 (pos 104) (op Yield [] (2 ∷ []) OpsEnd))
+    (region [] (constant 2 (pos 99) (op Yield [] (2 ∷ []) OpsEnd)) RegionsEnd)))
+    (returns (1 ∷ []))) ∷ []
 
 first_case : s_end switched (pos 4 ∷ []) 4 ≡ Done (pos 104 ∷ [])
 first_case = refl
@@ -158,13 +158,13 @@ no_case = refl
 abbrev blocks_of_a_region : List Function
 blocks_of_a_region =
     function (32 ∷ []) (0 ∷ [])
-      (Op Execute (9 ∷ []) [] []
-        (Region
-          (Block 1 [] (constant 1 (pos 0) (Op Branch [] (1 ∷ []) (2 ∷ []) RegionsEnd OpsEnd))
-          (Block 2 (2 ∷ []) (op (Computes (Compares BelowUnsigned 32)) (3 ∷ []) (2 ∷ 0 ∷ []) (Op (BranchOn 1 0) [] (3 ∷ 2 ∷ []) (3 ∷ 4 ∷ []) RegionsEnd OpsEnd))
-          (Block 3 (4 ∷ []) (constant 5 (pos 1) (add 6 4 5 (Op Branch [] (6 ∷ []) (2 ∷ []) RegionsEnd OpsEnd)))
-          (Block 4 [] (op Yield [] (2 ∷ []) OpsEnd) BlocksEnd)))) RegionsEnd)
-      (returns (9 ∷ []))) ∷ []
+    (Op Execute (9 ∷ []) [] []
+    (Region
+    (Block 1 [] (constant 1 (pos 0) (Op Branch [] (1 ∷ []) (2 ∷ []) RegionsEnd OpsEnd))
+    (Block 2 (2 ∷ []) (op (Computes (Compares BelowUnsigned 32)) (3 ∷ []) (2 ∷ 0 ∷ []) (Op (BranchOn 1 0) [] (3 ∷ 2 ∷ []) (3 ∷ 4 ∷ []) RegionsEnd OpsEnd))
+    (Block 3 (4 ∷ []) (constant 5 (pos 1) (add 6 4 5 (Op Branch [] (6 ∷ []) (2 ∷ []) RegionsEnd OpsEnd)))
+    (Block 4 [] (op Yield [] (2 ∷ []) OpsEnd) BlocksEnd)))) RegionsEnd)
+    (returns (9 ∷ []))) ∷ []
 
 counts_up : s_end blocks_of_a_region (pos 3 ∷ []) 22 ≡ Done (pos 3 ∷ [])
 counts_up = refl
@@ -210,14 +210,14 @@ no_such_function = refl
 abbrev ticks : List Function
 ticks =
     function [] []
-      (constant 0 (pos 0) (constant 1 (pos 2) (constant 2 (pos 1)
-      (Op (For 32) [] (0 ∷ 1 ∷ 2 ∷ []) []
-        (region (3 ∷ [])
-          (Op While (4 ∷ []) (0 ∷ []) []
-            (region (5 ∷ []) (op (Computes (Compares Below 32)) (6 ∷ []) (5 ∷ 1 ∷ []) (op Condition [] (6 ∷ 5 ∷ []) OpsEnd))
-            (region (7 ∷ []) (op (Call (codes "tick") (None ∷ []) Bare) (8 ∷ []) (7 ∷ []) (add 9 7 2 (op Yield [] (9 ∷ []) OpsEnd))) RegionsEnd))
-          (op Yield [] [] OpsEnd)) RegionsEnd)
-      (returns (0 ∷ [])))))) ∷
+    (constant 0 (pos 0) (constant 1 (pos 2) (constant 2 (pos 1)
+    (Op (For 32) [] (0 ∷ 1 ∷ 2 ∷ []) []
+    (region (3 ∷ [])
+    (Op While (4 ∷ []) (0 ∷ []) []
+    (region (5 ∷ []) (op (Computes (Compares Below 32)) (6 ∷ []) (5 ∷ 1 ∷ []) (op Condition [] (6 ∷ 5 ∷ []) OpsEnd))
+    (region (7 ∷ []) (op (Call (codes "tick") (None ∷ []) Bare) (8 ∷ []) (7 ∷ []) (add 9 7 2 (op Yield [] (9 ∷ []) OpsEnd))) RegionsEnd))
+    (op Yield [] [] OpsEnd)) RegionsEnd)
+    (returns (0 ∷ [])))))) ∷
     record { name = codes "tick"; face = record { inputs = Some (32 ∷ []); outputs = Some (32 ∷ []); packing = Bare }; shapes = None ∷ []; body = BlocksEnd } ∷ []
 
 abbrev tick : ℤ → ExternalCall

@@ -24,7 +24,6 @@ prefix_trans {xs} p q = record { rest = p.rest ++ q.rest; is = q.is ∙ ap (λ l
 module _ {State : Type 0} (ask : Question → State → Reply State) (fs : List Function)
     (Grows : State → State → Type 0) (grows_refl : (m : State) → Grows m m) (grows_trans : (l m n : State) → Grows l m → Grows m n → Grows l n)
     (Allowed : Stop → Type 0) (more_allowed : Allowed More) (undefined_allowed : Allowed Undefined) (outside_allowed : Allowed Outside) where
-
   abbrev pub ReplyFrom : State → Reply State → Type 0
   ReplyFrom m (Answers ys m1) = Grows m m1
   ReplyFrom m (Refuses e) = Allowed e
@@ -80,7 +79,7 @@ module _ {State : Type 0} (ask : Question → State → Reply State) (fs : List 
   -- where the memory's replies are so, so are the steps
   module _ (asks : (q : Question) (m : State) → ReplyFrom m (ask q m)) where
     reply_from : (m : State) (r : Reply State) (next : List Value → State → Step Spot State) → ReplyFrom m r
-      → ((ys : List Value) (n : State) → StepFrom n (next ys n)) → StepFrom m (on_reply m r next)
+        → ((ys : List Value) (n : State) → StepFrom n (next ys n)) → StepFrom m (on_reply m r next)
     reply_from m (Answers ys n) next g h = step_from m n (next ys n) g (h ys n)
     reply_from m (Refuses e) next g h = (grows_refl m, g)
 
@@ -106,7 +105,7 @@ module _ {State : Type 0} (ask : Question → State → Reply State) (fs : List 
     once_from (Block l args ops more) b env frames m = enters_from (Block l args ops more) [] env (Once b ∷ frames) m
 
     tested_from : (goes : Bool) (t : Target) (c : Counting) (i : ℕ) (xs : List Value) (b : Behind) (env : Env) (frames : List Frame) (m : State)
-      → StepFrom m (tested goes t c i xs b env frames m)
+        → StepFrom m (tested goes t c i xs b env frames m)
     tested_from true t c i xs b env frames m = grows_refl m
     tested_from false t c i xs b env frames m = leaves_from b xs env frames m
 
@@ -123,7 +122,7 @@ module _ {State : Type 0} (ask : Question → State → Reply State) (fs : List 
     yields_from xs env (After l b ∷ frames) m = enters_from l.before xs env (Before l b ∷ frames) m
 
     decided_from : (holds : Bool) (l : Looping) (xs : List Value) (b : Behind) (env : Env) (frames : List Frame) (m : State)
-      → StepFrom m (decided holds l xs b env frames m)
+        → StepFrom m (decided holds l xs b env frames m)
     decided_from true l xs b env frames m = enters_from l.after xs env (After l b ∷ frames) m
     decided_from false l xs b env frames m = leaves_from b xs env frames m
 
@@ -132,7 +131,7 @@ module _ {State : Type 0} (ask : Question → State → Reply State) (fs : List 
     decides_from c xs env _ m = (grows_refl m, outside_allowed)
 
     acts_from : (form : Form) (rs : List ℕ) (xs : List Value) (ls : List ℕ) (held : Regions) (b : Behind) (env : Env) (frames : List Frame) (m : State)
-      → StepFrom m (acts ask form rs xs ls held b env frames m)
+        → StepFrom m (acts ask form rs xs ls held b env frames m)
     acts_from If rs (c ∷ []) ls held b env frames m =
         stepping_from (truth c) m _ (λ holds. once_from (region_at (first_if holds) held) b env frames m)
     acts_from (For w) rs (x ∷ y ∷ z ∷ xs) ls held b env frames m =
@@ -143,9 +142,9 @@ module _ {State : Type 0} (ask : Question → State → Reply State) (fs : List 
     acts_from Execute rs [] ls held b env frames m = enters_from (region_at 0 held) [] env (Once b ∷ frames) m
     acts_from Yield rs xs ls held b env frames m = yields_from xs env frames m
     acts_from Condition rs (c ∷ xs) ls held b env frames m = decides_from c xs env frames m
-    acts_from form rs xs ls held b env frames m = 
+    acts_from form rs xs ls held b env frames m =
         within_from frames m (performs ask (does form ls xs) rs (record { ops = b.rest; blocks = b.blocks; env = env }) m)
-          (performs_from (does form ls xs) rs (record { ops = b.rest; blocks = b.blocks; env = env }) m)
+        (performs_from (does form ls xs) rs (record { ops = b.rest; blocks = b.blocks; env = env }) m)
 
     at_from : (ops : Ops) (blocks : Blocks) (env : Env) (frames : List Frame) (m : State) → StepFrom m (step_at ask ops blocks env frames m)
     at_from OpsEnd blocks env frames m = (grows_refl m, outside_allowed)
@@ -190,7 +189,7 @@ module _ {State : Type 0} (ask : Question → State → Reply State) (fs : List 
         if_told w (length xs == length inputs) _ answer.Outside (then_told w (numbers xs) _ (λ ns. tells_from f inputs outputs ns w)) tt))
 
     telling_from : (a : Answer (Told State)) (w : World State) (next : Told State → Outcome State) → AllTold w a
-      → ((t : Told State) → Reaches t.world (next t)) → Reaches w (ending a w next)
+        → ((t : Told State) → Reaches t.world (next t)) → Reaches w (ending a w next)
     telling_from (Gives t) w next l h = reaches_from w t.world (next t) l (h t)
     telling_from answer.Undefined w next l h = stopped_from Undefined w undefined_allowed
     telling_from answer.Outside w next l h = stopped_from Outside w outside_allowed
@@ -224,7 +223,7 @@ module _ {State : Type 0} (ask : Question → State → Reply State) (fs : List 
       follows_from (Goes p m) cs w g = goes_from p cs w m g
       follows_from (Calls f xs k rs p m) cs w g =
           reaches_from w (with_memory w m) _ (leads_memory w m g)
-            (ending_from (present (find_function f fs)) (with_memory w m) _ (λ h. body_from h.body h xs _ cs (with_memory w m)))
+          (ending_from (present (find_function f fs)) (with_memory w m) _ (λ h. body_from h.body h xs _ cs (with_memory w m)))
       follows_from (Returns xs m) cs w g = reaches_from w (with_memory w m) _ (leads_memory w m g) (gives_from xs cs (with_memory w m))
       follows_from (Stops e m) cs w g = stops_from e w m g.0 g.1
 
@@ -238,7 +237,7 @@ module _ {State : Type 0} (ask : Question → State → Reply State) (fs : List 
 
     module _ (next longer : Next State) (extends : (p : Place) (cs : List Caller) (w : World State) → Extends (next p cs w) (longer p cs w)) where
       ending_more : {A : Type 0} (a : Answer A) (w : World State) (out out1 : A → Outcome State) → ((x : A) → Extends (out x) (out1 x))
-        → Extends (ending a w out) (ending a w out1)
+          → Extends (ending a w out) (ending a w out1)
       ending_more (Gives x) w out out1 h = h x
       ending_more answer.Undefined w out out1 h = inl refl
       ending_more answer.Outside w out out1 h = inl refl
@@ -257,7 +256,7 @@ module _ {State : Type 0} (ask : Question → State → Reply State) (fs : List 
       gives_more xs (c ∷ cs) w = resumes_more (c.goes_on xs) c.results c.place cs w
 
       body_more : (body : Blocks) (f : Function) (xs : List Value) (c : Caller) (cs : List Caller) (w : World State)
-        → Extends (calls_body ask next body f xs c cs w) (calls_body ask longer body f xs c cs w)
+          → Extends (calls_body ask next body f xs c cs w) (calls_body ask longer body f xs c cs w)
       body_more BlocksEnd f xs c cs w = ending_more (external f xs w) w _ _ (λ t. resumes_more (c.goes_on t.values) c.results c.place cs t.world)
       body_more (Block l args ops more) f xs c cs w = ending_more (begins f xs) w _ _ (λ s. extends (at_top s) (c ∷ cs) w)
 

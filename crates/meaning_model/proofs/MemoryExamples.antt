@@ -3,7 +3,7 @@ use Rattle.std.proofs.Common.{◌≡◌, ℕ, List, [], ◌∷◌, None, Some, r
 use Rattle.std.specs.Prelude.{map, ℤ, pos, negsuc, codes}
 use Rattle.number_model.specs.Numbers.{wrapped}
 use Rattle.meaning_model.specs.Values.{Integer}
-use Rattle.meaning_model.specs.Pures.{Known, TakesSize, MovesPointer}
+use Rattle.meaning_model.specs.Pures.{Known, PutsPart, TakesSize, MovesPointer}
 use Rattle.meaning_model.specs.Calling.{Bare, Together}
 use Rattle.meaning_model.specs.Forms.{Layout, Computes, Call, Return, Load, Store, Allocate, AllocateAligned, Free, NewMemref, EndMemref, LoadElement, StoreElement}
 use Rattle.meaning_model.specs.Codes.{Ops, OpsEnd, Block, BlocksEnd, Function}
@@ -147,9 +147,9 @@ alignment_of_zero = refl
 abbrev handed_over : List Function
 handed_over =
     function (64 ∷ []) (0 ∷ [])
-      (op (NewMemref vector) (1 ∷ []) (0 ∷ []) (known 64 2 (pos 0)
-      (op (Call (codes "g") (Some 1 ∷ None ∷ []) Together) (3 ∷ 4 ∷ []) (1 ∷ 2 ∷ [])
-      (op (Computes (TakesSize 64 1)) (5 ∷ []) (4 ∷ 3 ∷ []) (returns (5 ∷ [])))))) ∷
+    (op (NewMemref vector) (1 ∷ []) (0 ∷ []) (known 64 2 (pos 0)
+    (op (Call (codes "g") (Some 1 ∷ None ∷ []) Together) (3 ∷ 4 ∷ []) (1 ∷ 2 ∷ [])
+    (op (Computes (TakesSize 64 1)) (5 ∷ []) (4 ∷ 3 ∷ []) (returns (5 ∷ [])))))) ∷
     record {
       name = codes "g";
       face = record { inputs = None; outputs = None; packing = Together };
@@ -162,3 +162,33 @@ handed_over_and_back = refl
 
 handed_over_by_the_machine : machine_end handed_over (pos 9 ∷ []) 6 ≡ Done (pos 9 ∷ [])
 handed_over_by_the_machine = refl
+
+-- a store leaves the bytes behind it
+abbrev neighbours : List Function
+neighbours =
+    with_vector (known 32 3 (negsuc 6) (known 64 4 (pos 1) (op (StoreElement 64 32) [] (3 ∷ 1 ∷ 4 ∷ []) (known 32 6 (pos 1) (op (StoreElement 64 32) [] (6 ∷ 1 ∷ 2 ∷ [])
+    (op (LoadElement 64 32) (5 ∷ []) (1 ∷ 4 ∷ []) (returns (5 ∷ []))))))))
+
+neighbour_stays : s_end neighbours (pos 3 ∷ []) 9 ≡ Done (negsuc 6 ∷ [])
+neighbour_stays = refl
+
+-- behind 16 bytes the next multiple of 64 is taken
+abbrev behind_a_byte : List Function
+behind_a_byte =
+    function [] [] (known 64 0 (pos 1) (op Allocate (1 ∷ []) (0 ∷ []) (known 64 2 (pos 64) (known 64 3 (pos 192)
+    (op AllocateAligned (4 ∷ []) (2 ∷ 3 ∷ []) (op Allocate (5 ∷ []) (0 ∷ []) (known 32 6 (pos 1) (returns (6 ∷ []))))))))) ∷ []
+
+alignment_takes_room : l_end behind_a_byte [] 8 ≡ Stops NoRoom
+alignment_takes_room = refl
+
+-- a memref whose offset is 1: an index below 0 is none, though its place lies in the buffer
+abbrev with_offset : ℤ → List Function
+with_offset i =
+    with_vector (known 32 3 (negsuc 6) (op (StoreElement 64 32) [] (3 ∷ 1 ∷ 2 ∷ []) (known 64 4 (pos 1) (op (Computes (PutsPart (2 ∷ []))) (6 ∷ []) (1 ∷ 4 ∷ [])
+    (known 64 7 i (op (StoreElement 64 32) [] (3 ∷ 6 ∷ 7 ∷ []) (op (LoadElement 64 32) (5 ∷ []) (1 ∷ 4 ∷ []) (returns (5 ∷ [])))))))))
+
+index_below_zero : s_end (with_offset (negsuc 0)) (pos 3 ∷ []) 11 ≡ Stops Undefined
+index_below_zero = refl
+
+offset_is_added : s_end (with_offset (pos 0)) (pos 3 ∷ []) 11 ≡ Done (negsuc 6 ∷ [])
+offset_is_added = refl

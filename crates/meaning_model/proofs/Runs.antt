@@ -53,7 +53,7 @@ store_good : (w n : ℕ) (p : Place) (b : Option Buffer) (h : Heap) → GoodRepl
 store_good w n p None h = tt
 store_good w n p (Some b) h =
     good_if h (holds (byte_size w) p.offset b) (Answers [] (changed p.buffer (with_bytes b (put_bytes (byte_size w) p.offset (n % 2 ^ w) b.bytes)) h)) (Refuses Undefined)
-      (needs_refl h) tt
+    (needs_refl h) tt
 
 free_good : (p : Place) (b : Option Buffer) (h : Heap) → GoodReply h (free_at p b h)
 free_good p None h = tt
@@ -74,13 +74,13 @@ module _ (fs : List Function) where
       go (Refuses e) g = g
 
   extended : (e : Entry) (o longer : Outcome Heap)
-    → fuel_laws.Extends ask_heap fs NeedsNoLess needs_refl needs_trans HasRoom tt tt tt heap_asks o longer → IsContinued (result_of e o) (result_of e longer)
+      → fuel_laws.Extends ask_heap fs NeedsNoLess needs_refl needs_trans HasRoom tt tt tt heap_asks o longer → IsContinued (result_of e o) (result_of e longer)
   extended e o longer (inl same) = inl (ap (result_of e) same)
   extended e o longer (inr (stops, leads)) = inr (ap (finished e) stops, leads.trace, leads.memory)
 
   continued : (e : Answer Entry) (answers : List ℤ) (n m : ℕ) → n ≤ m
-    → IsContinued (from_entry e no_heap (λ x. result_of x (exec ask_heap fs n (at_top x.spot) [] (first_world no_heap answers))))
-                  (from_entry e no_heap (λ x. result_of x (exec ask_heap fs m (at_top x.spot) [] (first_world no_heap answers))))
+      → IsContinued (from_entry e no_heap (λ x. result_of x (exec ask_heap fs n (at_top x.spot) [] (first_world no_heap answers))))
+      (from_entry e no_heap (λ x. result_of x (exec ask_heap fs m (at_top x.spot) [] (first_world no_heap answers))))
   continued (Gives e) answers n m le =
       extended e _ _ (fuel_laws.exec_more ask_heap fs NeedsNoLess needs_refl needs_trans HasRoom tt tt tt heap_asks n m le (at_top e.spot) [] (first_world no_heap answers))
   continued answer.Undefined answers n m le = inl refl
@@ -89,8 +89,8 @@ module _ (fs : List Function) where
 pub more_fuel : MoreFuel
 more_fuel fs name args answers n m le =
     subst (λ r. IsContinued r (structured fs name args answers m)) (sym (same_forms fs name args answers n))
-      (subst (λ r. IsContinued (stepped ask_heap no_heap fs name args answers n) r) (sym (same_forms fs name args answers m))
-        (continued fs (entry_of fs name args) answers n m le))
+    (subst (λ r. IsContinued (stepped ask_heap no_heap fs name args answers n) r) (sym (same_forms fs name args answers m))
+    (continued fs (entry_of fs name args) answers n m le))
 
 -- Room
 
@@ -109,7 +109,7 @@ module _ (fs : List Function) where
   finish_has_room e (Stopped stop) a = a
 
   run_has_room : (e : Answer Entry) (answers : List ℤ) (n : ℕ)
-    → EndHasRoom (from_entry e no_heap (λ x. result_of x (exec ask_heap fs n (at_top x.spot) [] (first_world no_heap answers)))).end
+      → EndHasRoom (from_entry e no_heap (λ x. result_of x (exec ask_heap fs n (at_top x.spot) [] (first_world no_heap answers)))).end
   run_has_room (Gives e) answers n =
       finish_has_room e _ (fuel_laws.exec_from ask_heap fs NeedsNoLess needs_refl needs_trans HasRoom tt tt tt (heap_asks fs) n (at_top e.spot) [] (first_world no_heap answers)).finish
   run_has_room answer.Undefined answers n = tt
@@ -118,7 +118,7 @@ module _ (fs : List Function) where
 pub always_room : AlwaysRoom
 always_room fs name args answers n short =
     subst EndHasRoom short
-      (subst (λ r. EndHasRoom r.end) (sym (same_forms fs name args answers n)) (run_has_room fs (entry_of fs name args) answers n))
+    (subst (λ r. EndHasRoom r.end) (sym (same_forms fs name args answers n)) (run_has_room fs (entry_of fs name args) answers n))
 
 -- Cells
 
@@ -137,13 +137,13 @@ module _ (fs : List Function) where
       go (Refuses e) = tt
 
   extended_cells : (e : Entry) (o longer : Outcome Cells)
-    → fuel_laws.Extends ask_cells fs AnyCells (λ c. tt) (λ b c d x y. tt) AnyStop tt tt tt cell_asks o longer → IsContinuedCells (result_of e o) (result_of e longer)
+      → fuel_laws.Extends ask_cells fs AnyCells (λ c. tt) (λ b c d x y. tt) AnyStop tt tt tt cell_asks o longer → IsContinuedCells (result_of e o) (result_of e longer)
   extended_cells e o longer (inl same) = inl (ap (result_of e) same)
   extended_cells e o longer (inr (stops, leads)) = inr (ap (finished e) stops, leads.trace)
 
   continued_cells : (e : Answer Entry) (answers : List ℤ) (room n m : ℕ) → n ≤ m
-    → IsContinuedCells (from_entry e (no_cells room) (λ x. result_of x (exec ask_cells fs n (at_top x.spot) [] (first_world (no_cells room) answers))))
-                       (from_entry e (no_cells room) (λ x. result_of x (exec ask_cells fs m (at_top x.spot) [] (first_world (no_cells room) answers))))
+      → IsContinuedCells (from_entry e (no_cells room) (λ x. result_of x (exec ask_cells fs n (at_top x.spot) [] (first_world (no_cells room) answers))))
+      (from_entry e (no_cells room) (λ x. result_of x (exec ask_cells fs m (at_top x.spot) [] (first_world (no_cells room) answers))))
   continued_cells (Gives e) answers room n m le =
       extended_cells e _ _ (fuel_laws.exec_more ask_cells fs AnyCells (λ c. tt) (λ b c d x y. tt) AnyStop tt tt tt cell_asks n m le (at_top e.spot) [] (first_world (no_cells room) answers))
   continued_cells answer.Undefined answers room n m le = inl refl

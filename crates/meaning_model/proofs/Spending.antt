@@ -32,21 +32,21 @@ module _ {State : Type 0} where
   taking_spends answer.Outside w next n h = tt
 
   yield_spends : (r : Ran State) (next : List Value → Env → ℕ → World State → Ran State) (n : ℕ) → Spends r n
-    → ((xs : List Value) (env : Env) (m : ℕ) (w : World State) → m < n → Spends (next xs env m w) n) → Spends (on_yield r next) n
+      → ((xs : List Value) (env : Env) (m : ℕ) (w : World State) → m < n → Spends (next xs env m w) n) → Spends (on_yield r next) n
   yield_spends (Yields xs env m w) next n s h = h xs env m w s
   yield_spends (Decides c xs env m w) next n s h = tt
   yield_spends (Returned xs m w) next n s h = s
   yield_spends (Stopped e w) next n s h = tt
 
   condition_spends : (r : Ran State) (next : Value → List Value → Env → ℕ → World State → Ran State) (n : ℕ) → Spends r n
-    → ((c : Value) (xs : List Value) (env : Env) (m : ℕ) (w : World State) → m < n → Spends (next c xs env m w) n) → Spends (on_condition r next) n
+      → ((c : Value) (xs : List Value) (env : Env) (m : ℕ) (w : World State) → m < n → Spends (next c xs env m w) n) → Spends (on_condition r next) n
   condition_spends (Yields xs env m w) next n s h = tt
   condition_spends (Decides c xs env m w) next n s h = h c xs env m w s
   condition_spends (Returned xs m w) next n s h = s
   condition_spends (Stopped e w) next n s h = tt
 
   return_spends : (r : Ran State) (next : List Value → ℕ → World State → Ran State) (n : ℕ) → Spends r n
-    → ((xs : List Value) (m : ℕ) (w : World State) → m < n → Spends (next xs m w) n) → Spends (on_return r next) n
+      → ((xs : List Value) (m : ℕ) (w : World State) → m < n → Spends (next xs m w) n) → Spends (on_return r next) n
   return_spends (Yields xs env m w) next n s h = tt
   return_spends (Decides c xs env m w) next n s h = tt
   return_spends (Returned xs m w) next n s h = h xs m w s
@@ -55,7 +55,6 @@ module _ {State : Type 0} where
 -- where what is inside spends, so do the parts of an operation
 module _ {State : Type 0} (ask : Question → State → Reply State) (fs : List Function) (run : Runs State)
     (spends : (code : Code) (env : Env) (n : ℕ) (w : World State) → Spends (run code env n w) n) where
-
   -- a part that begins with less
   later : (code : Code) (env : Env) (m : ℕ) (w : World State) (n : ℕ) → m < n → Spends (run code env m w) n
   later code env m w n lt = weaker (run code env m w) (spends code env m w) (omega arith)
@@ -74,13 +73,13 @@ module _ {State : Type 0} (ask : Question → State → Reply State) (fs : List 
   once_spends BlocksEnd b env n w = behind_spends b [] env n w
   once_spends (Block l args ops more) b env n w =
       yield_spends (into run (Block l args ops more) [] env n w) (behind run b) n (into_spends (Block l args ops more) [] env n w)
-        (λ xs env1 m w1 lt. behind_later b xs env1 m w1 n lt)
+      (λ xs env1 m w1 lt. behind_later b xs env1 m w1 n lt)
 
   round_spends : (goes : Bool) (t : Target) (c : Counting) (i : ℕ) (xs : List Value) (b : Behind) (env : Env) (n : ℕ) (w : World State)
-    → Spends (round run goes t c i xs b env n w) n
+      → Spends (round run goes t c i xs b env n w) n
   round_spends true t c i xs b env n w =
       yield_spends (run (Ahead t.ops c.body) env n w) _ n (spends (Ahead t.ops c.body) env n w)
-        (λ ys env1 m w1 lt. taking_spends (next_number c i) w1 _ n (λ k. later (Round c k ys b) env1 m w1 n lt))
+      (λ ys env1 m w1 lt. taking_spends (next_number c i) w1 _ n (λ k. later (Round c k ys b) env1 m w1 n lt))
   round_spends false t c i xs b env n w = behind_spends b xs env n w
 
   test_spends : (c : Counting) (i : ℕ) (xs : List Value) (b : Behind) (env : Env) (n : ℕ) (w : World State) → Spends (test run c i xs b env n w) n
@@ -108,7 +107,7 @@ module _ {State : Type 0} (ask : Question → State → Reply State) (fs : List 
   resume_spends d rs s n w = settle_spends (performs ask d rs s w.memory) n w
 
   call_spends : (body : Blocks) (f : Function) (xs : List Value) (k : List Value → Doing) (rs : List ℕ) (s : Spot) (n : ℕ) (w : World State)
-    → Spends (call ask run body f xs k rs s n w) n
+      → Spends (call ask run body f xs k rs s n w) n
   call_spends BlocksEnd f xs k rs s n w = taking_spends (external f xs w) w _ n (λ told. resume_spends (k told.values) rs s n told.world)
   call_spends (Block l args ops more) f xs k rs s n w =
       taking_spends (begins f xs) w _ n (λ start.
@@ -128,7 +127,7 @@ module _ {State : Type 0} (ask : Question → State → Reply State) (fs : List 
   more r n h = weaker r h (omega arith)
 
   means_spends : (form : Form) (rs : List ℕ) (xs : List Value) (ls : List ℕ) (held : Regions) (b : Behind) (env : Env) (n : ℕ) (w : World State)
-    → Spends (means ask fs run form rs xs ls held b env n w) (suc n)
+      → Spends (means ask fs run form rs xs ls held b env n w) (suc n)
   means_spends If rs (c ∷ []) ls held b env n w =
       taking_spends (truth c) w _ (suc n) (λ holds. more (once run (region_at (first_if holds) held) b env n w) n (once_spends (region_at (first_if holds) held) b env n w))
   means_spends (For width) rs (x ∷ y ∷ z ∷ xs) ls held b env n w =
@@ -138,8 +137,8 @@ module _ {State : Type 0} (ask : Question → State → Reply State) (fs : List 
       taking_spends (number x) w _ (suc n) (λ k. more (once run (region_at (case_of width k 1 cases) held) b env n w) n (once_spends (region_at (case_of width k 1 cases) held) b env n w))
   means_spends Execute rs [] ls held b env n w =
       more (on_yield (into run (region_at 0 held) [] env n w) (behind run b)) n
-        (yield_spends (into run (region_at 0 held) [] env n w) (behind run b) n (into_spends (region_at 0 held) [] env n w)
-          (λ xs env1 m w1 lt. behind_later b xs env1 m w1 n lt))
+      (yield_spends (into run (region_at 0 held) [] env n w) (behind run b) n (into_spends (region_at 0 held) [] env n w)
+      (λ xs env1 m w1 lt. behind_later b xs env1 m w1 n lt))
   means_spends Yield rs xs ls held b env n w = omega arith
   means_spends Condition rs (c ∷ xs) ls held b env n w = omega arith
   means_spends form rs xs ls held b env n w =
@@ -157,6 +156,6 @@ module _ {State : Type 0} (ask : Question → State → Reply State) (fs : List 
   code_spends (Again l xs b) env n w = while_spends l xs b env n w
 
 pub deep_spends : {State : Type 0} (ask : Question → State → Reply State) (fs : List Function) (d : ℕ) (code : Code) (env : Env) (n : ℕ) (w : World State)
-  → Spends (deep ask fs d code env n w) n
+    → Spends (deep ask fs d code env n w) n
 deep_spends ask fs zero code env n w = tt
 deep_spends ask fs (suc d) code env n w = code_spends ask fs (deep ask fs d) (deep_spends ask fs d) code env n w

@@ -48,12 +48,12 @@ store_cells w n start c =
 abbrev pub placed : ℕ → ℕ → Cells → Reply Cells
 placed start n c =
     if nat_le (start + positive_multiple 16 n) c.room then
-      Answers (Pointer 0 start ∷ []) (record {
-        room = c.room;
-        bytes = c.bytes;
-        allocations = record { start = start; size = n; is_live = true } ∷ c.allocations;
-        free = start + positive_multiple 16 n;
-      })
+    Answers (Pointer 0 start ∷ []) (record {
+      room = c.room;
+      bytes = c.bytes;
+      allocations = record { start = start; size = n; is_live = true } ∷ c.allocations;
+      free = start + positive_multiple 16 n;
+    })
     else Refuses NoRoom
 
 -- the first multiple of the alignment from the first free cell on

@@ -66,7 +66,7 @@ region_code r more = Region (in_front r.blocks BlocksEnd) more
 abbrev pub op_code : ℕ → Values → OpTree-F (Blocks → Blocks) (Ops → Ops) (Regions → Regions) → Ops → Ops
 op_code bits values o rest =
     Op (form_of o.name (record { bits = bits; props = o.props; operands = operand_types values o.operands; results = types_of o.results }))
-       (numbers_of o.results) o.operands o.successors (in_front o.regions RegionsEnd) rest
+    (numbers_of o.results) o.operands o.successors (in_front o.regions RegionsEnd) rest
 
 -- an operation in front of those behind it
 unfoldable pub code_of : ℕ → Values → OpTree → Ops → Ops
@@ -113,7 +113,7 @@ abbrev pub function_at : ℕ → OpTree → Entries → Option Function
 function_at bits o props =
     if_some (text_of (codes "sym_name") props) (λ name. if_some (type_of (codes "function_type") props) (λ t.
     option_map (λ s. record { name = name; face = s.face; shapes = map shape_of s.inputs; body = first_blocks (code_of bits (values_in o) o OpsEnd) })
-      (signature_at bits (out-TypeTree t))))
+    (signature_at bits (out-TypeTree t))))
 
 -- a function, where its name and its type stand in its properties
 abbrev pub function_of : ℕ → FuncTree → Option Function

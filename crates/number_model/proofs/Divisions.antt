@@ -30,7 +30,6 @@ one_more q b = ap (λ x. x *ℤ b) (+ℤ_one q) ∙ suc_ℤ-*ℤ q b
 one_less : (q b : ℤ) → (q -ℤ pos 1) *ℤ b ≡ q *ℤ b -ℤ b
 one_less q b = ap (λ x. x *ℤ b) (-ℤ_one q) ∙ pred_ℤ-*ℤ q b
 
-
 neg_sign : (a b r : ℤ) → (r ≡ pos 0 → ⊥) → int_lt r (pos 0) ≡ int_lt a (pos 0) → have_unlike_signs a b ≡ true → int_lt (neg_ℤ r) (pos 0) ≡ int_lt b (pos 0)
 neg_sign a b (pos zero) some same apart = absurd (some refl)
 neg_sign (pos a) (pos b) (pos (suc r)) some same apart = grind arith
@@ -41,7 +40,7 @@ neg_sign (negsuc a) (pos b) (negsuc r) some same apart = grind arith
 neg_sign (negsuc a) (negsuc b) (negsuc r) some same apart = grind arith
 
 rest_sign : (a b r : ℤ) → (r ≡ pos 0 → ⊥) → unsigned_abs r < unsigned_abs b → int_lt r (pos 0) ≡ int_lt a (pos 0) → have_unlike_signs a b ≡ false
-  → (unsigned_abs (b -ℤ r) < unsigned_abs b) × (int_lt (b -ℤ r) (pos 0) ≡ int_lt b (pos 0))
+    → (unsigned_abs (b -ℤ r) < unsigned_abs b) × (int_lt (b -ℤ r) (pos 0) ≡ int_lt b (pos 0))
 rest_sign a b (pos zero) some less same apart = absurd (some refl)
 rest_sign (pos a) (pos b) (pos (suc r)) some less same apart =
     let e : pos b -ℤ pos (suc r) ≡ pos (b - suc r) = omega (arith, ints) in
@@ -68,7 +67,7 @@ abs_neg r = omega (arith, ints)
 
 -- the same where the signs are not the same
 other_sign : (a b r : ℤ) → (r ≡ pos 0 → ⊥) → unsigned_abs r < unsigned_abs b → int_lt r (pos 0) ≡ int_lt a (pos 0) → have_unlike_signs a b ≡ true
-  → (unsigned_abs (r +ℤ b) < unsigned_abs b) × (int_lt (r +ℤ b) (pos 0) ≡ int_lt b (pos 0))
+    → (unsigned_abs (r +ℤ b) < unsigned_abs b) × (int_lt (r +ℤ b) (pos 0) ≡ int_lt b (pos 0))
 other_sign a b (pos zero) some less same apart = absurd (some refl)
 other_sign (pos a) (pos b) (pos (suc r)) some less same apart = grind arith
 other_sign (pos a) (negsuc b) (pos (suc r)) some less same apart =
@@ -94,8 +93,8 @@ the_sign a r some (inl none) = absurd (some none)
 the_sign a r some (inr same) = same
 
 rounds_up : (a b q r : ℤ) → q *ℤ b +ℤ r ≡ a → unsigned_abs r < unsigned_abs b → HasSignOf r a
-  → (none : Bool) → int_eq r (pos 0) ≡ none → (apart : Bool) → have_unlike_signs a b ≡ apart
-  → IsRoundedUp a b (if (not none && not apart) then q +ℤ pos 1 else q)
+    → (none : Bool) → int_eq r (pos 0) ≡ none → (apart : Bool) → have_unlike_signs a b ≡ apart
+    → IsRoundedUp a b (if (not none && not apart) then q +ℤ pos 1 else q)
 rounds_up a b q r sum less sign true z apart u =
     let zero_is : r ≡ pos 0 = (Decides-int_eq r (pos 0)).0 z in
     record { more = neg_ℤ r; sum = sum_neg (q *ℤ b) r a sum; less = subst (λ n. n < unsigned_abs b) (sym (abs_neg r)) less; sign = inl (ap neg_ℤ zero_is) }
@@ -108,8 +107,8 @@ rounds_up a b q r sum less sign false z false u =
     record { more = b -ℤ r; sum = one_more q b ∙ sum_rest (q *ℤ b) b r a sum; less = rest.0; sign = inr rest.1 }
 
 rounds_down : (a b q r : ℤ) → q *ℤ b +ℤ r ≡ a → unsigned_abs r < unsigned_abs b → HasSignOf r a
-  → (none : Bool) → int_eq r (pos 0) ≡ none → (apart : Bool) → have_unlike_signs a b ≡ apart
-  → IsRoundedDown a b (if (not none && apart) then q -ℤ pos 1 else q)
+    → (none : Bool) → int_eq r (pos 0) ≡ none → (apart : Bool) → have_unlike_signs a b ≡ apart
+    → IsRoundedDown a b (if (not none && apart) then q -ℤ pos 1 else q)
 rounds_down a b q r sum less sign true z apart u =
     record { more = r; sum = sum; less = less; sign = inl ((Decides-int_eq r (pos 0)).0 z) }
 rounds_down a b q r sum less sign false z false u =

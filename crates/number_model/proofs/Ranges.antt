@@ -99,7 +99,7 @@ up_below (negsuc a) (pos b) H h fa fb some low =
 up_below (negsuc a) (negsuc zero) H h fa fb some low = absurd (rest_of_neg _ _ low (mod-one (suc a)))
 up_below (negsuc a) (negsuc (suc b)) H h fa fb some low =
     let le : 2 * (suc a / suc (suc b)) + 1 ≤ suc a =
-          wide (suc a / suc (suc b)) (suc (suc b)) (suc a % suc (suc b)) (suc a) (div-add-mod' (suc a) (suc (suc b))) (rest_of_neg _ _ low) (mod-lt (suc a) (omega arith)) in
+    wide (suc a / suc (suc b)) (suc (suc b)) (suc a % suc (suc b)) (suc a) (div-add-mod' (suc a) (suc (suc b))) (rest_of_neg _ _ low) (mod-lt (suc a) (omega arith)) in
     omega arith
 
 down_below : (a b : ℤ) (H : ℕ) → 0 < H → mag a < H → mag b < H → int_eq b (pos 0) ≡ false → lies_above a b ≡ true → mag (int_div a b -ℤ pos 1) < H
@@ -125,6 +125,7 @@ defined true n r e = absurd (undefined_is_none e)
     Is (Gives x) = ⊥
     Is Undefined = Unit {0}
     Is Outside = ⊥
+
     undefined_is_none : {r : ℕ} → Undefined ≡ Gives r → ⊥
     undefined_is_none e = subst Is e tt
 defined false n r e = (refl, sym (ap (given n) e))
@@ -172,12 +173,12 @@ module _ (w : ℕ) (h : 0 < w) (a b : ℕ) (d : IsDefined w (signed w a) (signed
   small_up : mag (quotient_up (signed w a) (signed w b)) < 2 ^ (w - 1)
   small_up =
       either_below (2 ^ (w - 1)) (lies_below (signed w a) (signed w b)) _ _
-        (λ low. up_below (signed w a) (signed w b) (2 ^ (w - 1)) (half_above w) (signed_fits w a h) (signed_fits w b h) d.some low) small_quotient
+      (λ low. up_below (signed w a) (signed w b) (2 ^ (w - 1)) (half_above w) (signed_fits w a h) (signed_fits w b h) d.some low) small_quotient
 
   small_down : mag (quotient_down (signed w a) (signed w b)) < 2 ^ (w - 1)
   small_down =
       either_below (2 ^ (w - 1)) (lies_above (signed w a) (signed w b)) _ _
-        (λ high. down_below (signed w a) (signed w b) (2 ^ (w - 1)) (half_above w) (signed_fits w a h) (signed_fits w b h) d.some high) small_quotient
+      (λ high. down_below (signed w a) (signed w b) (2 ^ (w - 1)) (half_above w) (signed_fits w a h) (signed_fits w b h) d.some high) small_quotient
 
 -- a result that is small is read back
 read_back : (w : ℕ) (z : ℤ) (q : ℕ) → 0 < w → mag z < 2 ^ (w - 1) → q ≡ wrapped w z → z ≡ signed w q
@@ -189,19 +190,19 @@ divides_towards_zero w a b q r h eq er =
     let dr : (no_quotient (least w) (signed w a) (signed w b) ≡ false) × (r ≡ wrapped w (int_rem (signed w a) (signed w b))) = defined _ _ r er in
     let d : IsDefined w (signed w a) (signed w b) = is_defined w _ _ dq.0 in
     subst (λ y. IsDivision (signed w a) (signed w b) (signed w q) y) (read_back w _ r h (small_rest w h a b d) dr.1)
-      (subst (λ x. IsDivision (signed w a) (signed w b) x (int_rem (signed w a) (signed w b))) (read_back w _ q h (small_quotient w h a b d) dq.1)
-        (towards_zero (signed w a) (signed w b) (above_zero (signed w b) d.some)))
+    (subst (λ x. IsDivision (signed w a) (signed w b) x (int_rem (signed w a) (signed w b))) (read_back w _ q h (small_quotient w h a b d) dq.1)
+    (towards_zero (signed w a) (signed w b) (above_zero (signed w b) d.some)))
 
 pub divides_up : DividesUp
 divides_up w a b q h eq =
     let dq : (no_quotient (least w) (signed w a) (signed w b) ≡ false) × (q ≡ wrapped w (quotient_up (signed w a) (signed w b))) = defined _ _ q eq in
     let d : IsDefined w (signed w a) (signed w b) = is_defined w _ _ dq.0 in
     subst (λ x. IsRoundedUp (signed w a) (signed w b) x) (read_back w _ q h (small_up w h a b d) dq.1)
-      (up_is (signed w a) (signed w b) (above_zero (signed w b) d.some))
+    (up_is (signed w a) (signed w b) (above_zero (signed w b) d.some))
 
 pub divides_down : DividesDown
 divides_down w a b q h eq =
     let dq : (no_quotient (least w) (signed w a) (signed w b) ≡ false) × (q ≡ wrapped w (quotient_down (signed w a) (signed w b))) = defined _ _ q eq in
     let d : IsDefined w (signed w a) (signed w b) = is_defined w _ _ dq.0 in
     subst (λ x. IsRoundedDown (signed w a) (signed w b) x) (read_back w _ q h (small_down w h a b d) dq.1)
-      (down_is (signed w a) (signed w b) (above_zero (signed w b) d.some))
+    (down_is (signed w a) (signed w b) (above_zero (signed w b) d.some))

@@ -82,8 +82,8 @@ negative_of y q n k r m t e d s le = omega (arith, ints)
 negatives_at : (w : ℕ) (y : ℤ) (q n : ℕ) → y +ℤ pos (q * 2 ^ w) ≡ pos n → wrapped w (neg_ℤ (pos (n % 2 ^ w))) ≡ wrapped w (neg_ℤ y)
 negatives_at w y q n e =
     sym (same_up_to w (neg_ℤ y) (neg_ℤ (pos (n % 2 ^ w))) (suc (n / 2 ^ w)) (q + 1)
-      (negative_of y (q * 2 ^ w) n (n / 2 ^ w * 2 ^ w) (n % 2 ^ w) (2 ^ w) (suc (n / 2 ^ w) * 2 ^ w) e (div-add-mod' n (2 ^ w)) (omega arith) (le_of_lt (mod-lt n (pow_pos w)))
-       ∙ ap (λ t. neg_ℤ (pos (n % 2 ^ w)) +ℤ pos t) (omega arith)))
+    (negative_of y (q * 2 ^ w) n (n / 2 ^ w * 2 ^ w) (n % 2 ^ w) (2 ^ w) (suc (n / 2 ^ w) * 2 ^ w) e (div-add-mod' n (2 ^ w)) (omega arith) (le_of_lt (mod-lt n (pow_pos w)))
+    ∙ ap (λ t. neg_ℤ (pos (n % 2 ^ w)) +ℤ pos t) (omega arith)))
 
 negatives : (w : ℕ) (y : ℤ) → wrapped w (neg_ℤ (pos (unsigned w (wrapped w y)))) ≡ wrapped w (neg_ℤ y)
 negatives w y = ap (λ r. wrapped w (neg_ℤ (pos r))) (twice w y) ∙ negatives_at w y (lift w y).times (lift w y).number (lift w y).is
@@ -130,13 +130,13 @@ times_neg (negsuc a) p k b s e f =
 product_lifts : (w : ℕ) (x y : ℤ) → wrapped w (x *ℤ y) ≡ wrapped w (pos (lift w x).number *ℤ y)
 product_lifts w x (pos b) =
     same_up_to w (x *ℤ pos b) (pos (lift w x).number *ℤ pos b) ((lift w x).times * b) 0
-      (times_pos x ((lift w x).times * 2 ^ w) (lift w x).number b _ (lift w x).is (omega arith) ∙ nothing (pos (lift w x).number *ℤ pos b) (0 * 2 ^ w) (omega arith))
+    (times_pos x ((lift w x).times * 2 ^ w) (lift w x).number b _ (lift w x).is (omega arith) ∙ nothing (pos (lift w x).number *ℤ pos b) (0 * 2 ^ w) (omega arith))
   where
     nothing : (z : ℤ) (k : ℕ) → k ≡ 0 → z ≡ z +ℤ pos k
     nothing z k e = omega (arith, ints)
 product_lifts w x (negsuc b) =
     sym (same_up_to w (pos (lift w x).number *ℤ negsuc b) (x *ℤ negsuc b) ((lift w x).times * suc b) 0
-      (times_neg x ((lift w x).times * 2 ^ w) (lift w x).number b _ (lift w x).is (omega arith) ∙ nothing (x *ℤ negsuc b) (0 * 2 ^ w) (omega arith)))
+    (times_neg x ((lift w x).times * 2 ^ w) (lift w x).number b _ (lift w x).is (omega arith) ∙ nothing (x *ℤ negsuc b) (0 * 2 ^ w) (omega arith)))
   where
     nothing : (z : ℤ) (k : ℕ) → k ≡ 0 → z ≡ z +ℤ pos k
     nothing z k e = omega (arith, ints)
