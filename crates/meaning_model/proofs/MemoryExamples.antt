@@ -184,11 +184,11 @@ alignment_takes_room = refl
 -- a memref whose offset is 1: an index below 0 is none, though its place lies in the buffer
 abbrev with_offset : ℤ → List Function
 with_offset i =
-    with_vector (known 32 3 (negsuc 6) (op (StoreElement 64 32) [] (3 ∷ 1 ∷ 2 ∷ []) (known 64 4 (pos 1) (op (Computes (PutsPart (2 ∷ []))) (6 ∷ []) (1 ∷ 4 ∷ [])
-    (known 64 7 i (op (StoreElement 64 32) [] (3 ∷ 6 ∷ 7 ∷ []) (op (LoadElement 64 32) (5 ∷ []) (1 ∷ 4 ∷ []) (returns (5 ∷ [])))))))))
+    with_vector (known 32 3 (negsuc 6) (known 64 4 (pos 1) (op (StoreElement 64 32) [] (3 ∷ 1 ∷ 4 ∷ []) (op (Computes (PutsPart (2 ∷ []))) (6 ∷ []) (1 ∷ 4 ∷ [])
+    (known 64 7 i (known 32 8 (pos 8) (op (StoreElement 64 32) [] (8 ∷ 6 ∷ 7 ∷ []) (op (LoadElement 64 32) (5 ∷ []) (1 ∷ 4 ∷ []) (returns (5 ∷ []))))))))))
 
 index_below_zero : s_end (with_offset (negsuc 0)) (pos 3 ∷ []) 11 ≡ Stops Undefined
 index_below_zero = refl
 
-offset_is_added : s_end (with_offset (pos 0)) (pos 3 ∷ []) 11 ≡ Done (negsuc 6 ∷ [])
+offset_is_added : s_end (with_offset (pos 0)) (pos 3 ∷ []) 11 ≡ Done (pos 8 ∷ [])
 offset_is_added = refl
