@@ -1,6 +1,8 @@
 //! Arithmetic on integers of a number of bits, as `number_model` says it.
 #![tactic(auto)]
 
+mod arith;
 mod widths;
 
+pub use arith::{Binary, Flags, Given};
 pub use widths::{fits_signed, fits_unsigned, modulus, signed, unsigned, wrapped};

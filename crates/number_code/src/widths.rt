@@ -1,6 +1,6 @@
 //! Numbers of a width, read as unsigned and as signed ones.
 
-ghost use Rattle.std.specs.Prelude.{◌≡◌, ℕ, ◌^◌, ◌<◌, ◌≤◌};
+ghost use Rattle.std.specs.Prelude.{◌≡◌, ℕ, ◌^◌, ◌≤◌, unsigned_abs};
 ghost use Rattle.number_model.specs.Numbers as numbers;
 
 /// 2 to the width.
@@ -23,7 +23,8 @@ pub fn unsigned(w: u32, a: u64) -> u64
 pub fn signed(w: u32, a: u64) -> i128
     requires low { 1 ≤ w }
     requires high { w ≤ 64 }
-    ensures { result ≡ numbers.signed w a }
+    ensures value { result ≡ numbers.signed w a }
+    ensures small { unsigned_abs result ≤ 2 ^ 63 }
 {
     let number = unsigned(w, a) as u128;
     if number < modulus(w - 1) {

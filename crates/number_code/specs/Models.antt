@@ -1,0 +1,38 @@
+-- What the types of the code stand for.
+use Rattle.std.specs.Prelude.{ℕ}
+use Rattle.number_model.specs.Answers.{Answer, Gives, Undefined}
+use Rattle.number_model.specs.Arithmetic as model
+use Rattle.number_code.specs.declared.arith.Flags.{Flags}
+use Rattle.number_code.specs.declared.arith.Given.{Given}
+use Rattle.number_code.specs.declared.arith.Given.TheVariants as given
+use Rattle.number_code.specs.declared.arith.Binary.{Binary}
+use Rattle.number_code.specs.declared.arith.Binary.TheVariants as binary
+
+abbrev pub answer_of : Given → Answer ℕ
+answer_of (given.Number n) = Gives n
+answer_of given.Undefined = Undefined
+
+abbrev pub flags_of : Flags → model.Flags
+flags_of f = record { signed = f.signed; unsigned = f.unsigned }
+
+abbrev pub binary_of : Binary → model.Binary
+binary_of (binary.Add flags) = model.Add (flags_of flags)
+binary_of (binary.Subtract flags) = model.Subtract (flags_of flags)
+binary_of (binary.Multiply flags) = model.Multiply (flags_of flags)
+binary_of (binary.ShiftLeft flags) = model.ShiftLeft (flags_of flags)
+binary_of binary.Divide = model.Divide
+binary_of binary.DivideUnsigned = model.DivideUnsigned
+binary_of binary.Remainder = model.Remainder
+binary_of binary.RemainderUnsigned = model.RemainderUnsigned
+binary_of binary.DivideUp = model.DivideUp
+binary_of binary.DivideDown = model.DivideDown
+binary_of binary.DivideUpUnsigned = model.DivideUpUnsigned
+binary_of binary.And = model.And
+binary_of binary.Or = model.Or
+binary_of binary.Xor = model.Xor
+binary_of binary.ShiftRight = model.ShiftRight
+binary_of binary.ShiftRightUnsigned = model.ShiftRightUnsigned
+binary_of binary.Greater = model.Greater
+binary_of binary.GreaterUnsigned = model.GreaterUnsigned
+binary_of binary.Less = model.Less
+binary_of binary.LessUnsigned = model.LessUnsigned
