@@ -2,6 +2,7 @@
 #![tactic(auto)]
 
 mod arith;
+mod division;
 mod widths;
 
 pub use arith::{Binary, Flags, Given};
