@@ -2,6 +2,7 @@
 
 ghost use Rattle.std.specs.Prelude.{◌≡◌, ℕ, ◌≤◌, ◌+ℤ◌, ◌-ℤ◌, ◌*ℤ◌, ◌^◌, pos, not, ◌&&◌, ◌||◌, unsigned_abs};
 ghost use Rattle.number_model.specs.Answers as answers;
+ghost use Rattle.number_model.specs.Numbers as numbers;
 ghost use Rattle.number_model.specs.Arithmetic as arithmetic;
 ghost use Rattle.number_code.specs.Models.{answer_of, flags_of};
 
@@ -96,7 +97,7 @@ fn times(x: i128, y: i128) -> i128
     x * y
 }
 
-fn add(flags: Flags, w: u32, a: u64, b: u64) -> Given
+pub(crate) fn add(flags: Flags, w: u32, a: u64, b: u64) -> Given
     requires low { 1 ≤ w }
     requires high { w ≤ 64 }
     ensures { answer_of result ≡ arithmetic.add (flags_of flags) w a b }
@@ -104,7 +105,7 @@ fn add(flags: Flags, w: u32, a: u64, b: u64) -> Given
     wrapping(flags, w, signed(w, a) + signed(w, b), unsigned(w, a) as i128 + unsigned(w, b) as i128)
 }
 
-fn subtract(flags: Flags, w: u32, a: u64, b: u64) -> Given
+pub(crate) fn subtract(flags: Flags, w: u32, a: u64, b: u64) -> Given
     requires low { 1 ≤ w }
     requires high { w ≤ 64 }
     ensures { answer_of result ≡ arithmetic.subtract (flags_of flags) w a b }
@@ -112,7 +113,7 @@ fn subtract(flags: Flags, w: u32, a: u64, b: u64) -> Given
     wrapping(flags, w, minus(signed(w, a), signed(w, b)), minus(unsigned(w, a) as i128, unsigned(w, b) as i128))
 }
 
-fn multiply(flags: Flags, w: u32, a: u64, b: u64) -> Given
+pub(crate) fn multiply(flags: Flags, w: u32, a: u64, b: u64) -> Given
     requires low { 1 ≤ w }
     requires high { w ≤ 64 }
     ensures { answer_of result ≡ arithmetic.multiply (flags_of flags) w a b }
@@ -120,7 +121,7 @@ fn multiply(flags: Flags, w: u32, a: u64, b: u64) -> Given
     wrapping_large(flags, w, times(signed(w, a), signed(w, b)), unsigned(w, a) as u128 * unsigned(w, b) as u128)
 }
 
-fn shift_left(flags: Flags, w: u32, a: u64, b: u64) -> Given
+pub(crate) fn shift_left(flags: Flags, w: u32, a: u64, b: u64) -> Given
     requires low { 1 ≤ w }
     requires high { w ≤ 64 }
     ensures { answer_of result ≡ arithmetic.shift_left (flags_of flags) w a b }
@@ -134,7 +135,7 @@ fn shift_left(flags: Flags, w: u32, a: u64, b: u64) -> Given
     }
 }
 
-fn shift_right(w: u32, a: u64, b: u64) -> Given
+pub(crate) fn shift_right(w: u32, a: u64, b: u64) -> Given
     requires low { 1 ≤ w }
     requires high { w ≤ 64 }
     ensures { answer_of result ≡ arithmetic.shift_right_signed w a b }
@@ -143,11 +144,20 @@ fn shift_right(w: u32, a: u64, b: u64) -> Given
     if amount < w as u64 { Given::Number(wrapped(w, signed(w, a) >> amount)) } else { Given::Undefined }
 }
 
-fn shift_right_unsigned(w: u32, a: u64, b: u64) -> Given
+pub(crate) fn shift_right_unsigned(w: u32, a: u64, b: u64) -> Given
     requires low { 1 ≤ w }
     requires high { w ≤ 64 }
     ensures { answer_of result ≡ arithmetic.shift_right_unsigned w a b }
 {
     let amount = unsigned(w, b);
     if amount < w as u64 { Given::Number(unsigned(w, a) >> amount) } else { Given::Undefined }
+}
+
+/// The lowest bits of a number, undefined where the signed or the unsigned one changes that a flag speaks of.
+pub(crate) fn truncate(flags: Flags, m: u32, number: i128, plain: u64, a: u64) -> Given
+    requires low { 1 ≤ m }
+    requires high { m ≤ 64 }
+    ensures { answer_of result ≡ answers.undefined_if (arithmetic.breaks (flags_of flags) m number (pos plain)) (answers.Gives (numbers.unsigned m a)) }
+{
+    unless(breaks(flags, fits_signed(m, number), fits_unsigned(m, plain as i128)), unsigned(m, a))
 }

@@ -3,7 +3,9 @@
 
 mod arith;
 mod division;
+mod operations;
 mod widths;
 
 pub use arith::{Binary, Flags, Given};
+pub use operations::{compares, of_two, resized, Comparison, Resize};
 pub use widths::{fits_signed, fits_unsigned, modulus, signed, unsigned, wrapped};
