@@ -51,7 +51,11 @@ pub enum Binary {
 fn unless(broken: bool, number: u64) -> Given
     ensures { answer_of result ≡ answers.undefined_if broken (answers.Gives number) }
 {
-    if broken { Given::Undefined } else { Given::Number(number) }
+    if broken {
+        Given::Undefined
+    } else {
+        Given::Number(number)
+    }
 }
 
 /// Whether a promise is broken, where the result fits as signed and as unsigned or not.
@@ -67,7 +71,14 @@ fn wrapping(flags: Flags, w: u32, result_signed: i128, plain: i128) -> Given
     requires high { w ≤ 64 }
     ensures { answer_of result ≡ arithmetic.wrapping (flags_of flags) w result_signed plain }
 {
-    unless(breaks(flags, fits_signed(w, result_signed), fits_unsigned(w, plain)), wrapped(w, plain))
+    unless(
+        breaks(
+            flags,
+            fits_signed(w, result_signed),
+            fits_unsigned(w, plain),
+        ),
+        wrapped(w, plain),
+    )
 }
 
 /// The same, where the one over unsigned numbers is below 2 to the 128.
@@ -76,7 +87,10 @@ fn wrapping_large(flags: Flags, w: u32, result_signed: i128, plain: u128) -> Giv
     requires high { w ≤ 64 }
     ensures { answer_of result ≡ arithmetic.wrapping (flags_of flags) w result_signed (pos plain) }
 {
-    unless(breaks(flags, fits_signed(w, result_signed), plain < modulus(w)), (plain % modulus(w)) as u64)
+    unless(
+        breaks(flags, fits_signed(w, result_signed), plain < modulus(w)),
+        (plain % modulus(w)) as u64,
+    )
 }
 
 /// The difference of two integers of 64 bits at most.
@@ -102,7 +116,12 @@ pub(crate) fn add(flags: Flags, w: u32, a: u64, b: u64) -> Given
     requires high { w ≤ 64 }
     ensures { answer_of result ≡ arithmetic.add (flags_of flags) w a b }
 {
-    wrapping(flags, w, signed(w, a) + signed(w, b), unsigned(w, a) as i128 + unsigned(w, b) as i128)
+    wrapping(
+        flags,
+        w,
+        signed(w, a) + signed(w, b),
+        unsigned(w, a) as i128 + unsigned(w, b) as i128,
+    )
 }
 
 pub(crate) fn subtract(flags: Flags, w: u32, a: u64, b: u64) -> Given
@@ -110,7 +129,12 @@ pub(crate) fn subtract(flags: Flags, w: u32, a: u64, b: u64) -> Given
     requires high { w ≤ 64 }
     ensures { answer_of result ≡ arithmetic.subtract (flags_of flags) w a b }
 {
-    wrapping(flags, w, minus(signed(w, a), signed(w, b)), minus(unsigned(w, a) as i128, unsigned(w, b) as i128))
+    wrapping(
+        flags,
+        w,
+        minus(signed(w, a), signed(w, b)),
+        minus(unsigned(w, a) as i128, unsigned(w, b) as i128),
+    )
 }
 
 pub(crate) fn multiply(flags: Flags, w: u32, a: u64, b: u64) -> Given
@@ -118,7 +142,12 @@ pub(crate) fn multiply(flags: Flags, w: u32, a: u64, b: u64) -> Given
     requires high { w ≤ 64 }
     ensures { answer_of result ≡ arithmetic.multiply (flags_of flags) w a b }
 {
-    wrapping_large(flags, w, times(signed(w, a), signed(w, b)), unsigned(w, a) as u128 * unsigned(w, b) as u128)
+    wrapping_large(
+        flags,
+        w,
+        times(signed(w, a), signed(w, b)),
+        unsigned(w, a) as u128 * unsigned(w, b) as u128,
+    )
 }
 
 pub(crate) fn shift_left(flags: Flags, w: u32, a: u64, b: u64) -> Given
@@ -129,7 +158,12 @@ pub(crate) fn shift_left(flags: Flags, w: u32, a: u64, b: u64) -> Given
     let amount = unsigned(w, b);
     if amount < w as u64 {
         let factor = modulus(amount as u32);
-        wrapping_large(flags, w, times(signed(w, a), factor as i128), unsigned(w, a) as u128 * factor)
+        wrapping_large(
+            flags,
+            w,
+            times(signed(w, a), factor as i128),
+            unsigned(w, a) as u128 * factor,
+        )
     } else {
         Given::Undefined
     }
@@ -141,7 +175,11 @@ pub(crate) fn shift_right(w: u32, a: u64, b: u64) -> Given
     ensures { answer_of result ≡ arithmetic.shift_right_signed w a b }
 {
     let amount = unsigned(w, b);
-    if amount < w as u64 { Given::Number(wrapped(w, signed(w, a) >> amount)) } else { Given::Undefined }
+    if amount < w as u64 {
+        Given::Number(wrapped(w, signed(w, a) >> amount))
+    } else {
+        Given::Undefined
+    }
 }
 
 pub(crate) fn shift_right_unsigned(w: u32, a: u64, b: u64) -> Given
@@ -150,7 +188,11 @@ pub(crate) fn shift_right_unsigned(w: u32, a: u64, b: u64) -> Given
     ensures { answer_of result ≡ arithmetic.shift_right_unsigned w a b }
 {
     let amount = unsigned(w, b);
-    if amount < w as u64 { Given::Number(unsigned(w, a) >> amount) } else { Given::Undefined }
+    if amount < w as u64 {
+        Given::Number(unsigned(w, a) >> amount)
+    } else {
+        Given::Undefined
+    }
 }
 
 /// The lowest bits of a number, undefined where the signed or the unsigned one changes that a flag speaks of.
@@ -159,5 +201,12 @@ pub(crate) fn truncate(flags: Flags, m: u32, number: i128, plain: u64, a: u64) -
     requires high { m ≤ 64 }
     ensures { answer_of result ≡ answers.undefined_if (arithmetic.breaks (flags_of flags) m number (pos plain)) (answers.Gives (numbers.unsigned m a)) }
 {
-    unless(breaks(flags, fits_signed(m, number), fits_unsigned(m, plain as i128)), unsigned(m, a))
+    unless(
+        breaks(
+            flags,
+            fits_signed(m, number),
+            fits_unsigned(m, plain as i128),
+        ),
+        unsigned(m, a),
+    )
 }

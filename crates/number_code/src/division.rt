@@ -95,7 +95,11 @@ fn quotient_up(x: i128, y: i128) -> i128
     ensures { result ≡ arithmetic.quotient_up x y }
 {
     let rounded = quotient(x, y);
-    if lies_below(x, y) { one_more(rounded) } else { rounded }
+    if lies_below(x, y) {
+        one_more(rounded)
+    } else {
+        rounded
+    }
 }
 
 /// The quotient, rounded down.
@@ -105,7 +109,11 @@ fn quotient_down(x: i128, y: i128) -> i128
     ensures { result ≡ arithmetic.quotient_down x y }
 {
     let rounded = quotient(x, y);
-    if lies_above(x, y) { one_less(rounded) } else { rounded }
+    if lies_above(x, y) {
+        one_less(rounded)
+    } else {
+        rounded
+    }
 }
 
 /// The quotient rounded towards zero.
@@ -115,7 +123,11 @@ pub fn divide(w: u32, a: u64, b: u64) -> Given
     ensures { answer_of result ≡ arithmetic.divided w int_div a b }
 {
     let (x, y) = (signed(w, a), signed(w, b));
-    if no_quotient(w, x, y) { Given::Undefined } else { Given::Number(wrapped(w, quotient(x, y))) }
+    if no_quotient(w, x, y) {
+        Given::Undefined
+    } else {
+        Given::Number(wrapped(w, quotient(x, y)))
+    }
 }
 
 /// The remainder, with the sign of the first.
@@ -125,7 +137,11 @@ pub fn rest(w: u32, a: u64, b: u64) -> Given
     ensures { answer_of result ≡ arithmetic.divided w int_rem a b }
 {
     let (x, y) = (signed(w, a), signed(w, b));
-    if no_quotient(w, x, y) { Given::Undefined } else { Given::Number(wrapped(w, remainder(x, y))) }
+    if no_quotient(w, x, y) {
+        Given::Undefined
+    } else {
+        Given::Number(wrapped(w, remainder(x, y)))
+    }
 }
 
 /// The quotient rounded up.
@@ -135,7 +151,11 @@ pub fn divide_up(w: u32, a: u64, b: u64) -> Given
     ensures { answer_of result ≡ arithmetic.divided w arithmetic.quotient_up a b }
 {
     let (x, y) = (signed(w, a), signed(w, b));
-    if no_quotient(w, x, y) { Given::Undefined } else { Given::Number(wrapped(w, quotient_up(x, y))) }
+    if no_quotient(w, x, y) {
+        Given::Undefined
+    } else {
+        Given::Number(wrapped(w, quotient_up(x, y)))
+    }
 }
 
 /// The quotient rounded down.
@@ -145,7 +165,11 @@ pub fn divide_down(w: u32, a: u64, b: u64) -> Given
     ensures { answer_of result ≡ arithmetic.divided w arithmetic.quotient_down a b }
 {
     let (x, y) = (signed(w, a), signed(w, b));
-    if no_quotient(w, x, y) { Given::Undefined } else { Given::Number(wrapped(w, quotient_down(x, y))) }
+    if no_quotient(w, x, y) {
+        Given::Undefined
+    } else {
+        Given::Number(wrapped(w, quotient_down(x, y)))
+    }
 }
 
 /// The unsigned quotient.
@@ -154,7 +178,11 @@ pub fn divide_unsigned(w: u32, a: u64, b: u64) -> Given
     ensures { answer_of result ≡ arithmetic.divided_unsigned w ◌/◌ a b }
 {
     let divisor = unsigned(w, b);
-    if divisor == 0 { Given::Undefined } else { Given::Number(unsigned(w, a) / divisor) }
+    if divisor == 0 {
+        Given::Undefined
+    } else {
+        Given::Number(unsigned(w, a) / divisor)
+    }
 }
 
 /// The unsigned remainder.
@@ -163,7 +191,11 @@ pub fn rest_unsigned(w: u32, a: u64, b: u64) -> Given
     ensures { answer_of result ≡ arithmetic.divided_unsigned w ◌%◌ a b }
 {
     let divisor = unsigned(w, b);
-    if divisor == 0 { Given::Undefined } else { Given::Number(unsigned(w, a) % divisor) }
+    if divisor == 0 {
+        Given::Undefined
+    } else {
+        Given::Number(unsigned(w, a) % divisor)
+    }
 }
 
 /// The unsigned quotient rounded up.
@@ -172,5 +204,9 @@ pub fn divide_up_unsigned(w: u32, a: u64, b: u64) -> Given
     ensures { answer_of result ≡ arithmetic.divided_unsigned w div_ceil a b }
 {
     let divisor = unsigned(w, b);
-    if divisor == 0 { Given::Undefined } else { Given::Number(unsigned(w, a).div_ceil(divisor)) }
+    if divisor == 0 {
+        Given::Undefined
+    } else {
+        Given::Number(unsigned(w, a).div_ceil(divisor))
+    }
 }

@@ -7,5 +7,5 @@ mod operations;
 mod widths;
 
 pub use arith::{Binary, Flags, Given};
-pub use operations::{compares, of_two, resized, Comparison, Resize};
+pub use operations::{Comparison, Resize, compares, of_two, resized};
 pub use widths::{fits_signed, fits_unsigned, modulus, signed, unsigned, wrapped};

@@ -4,8 +4,13 @@ ghost use Rattle.std.specs.Prelude.{◌≡◌, ℕ, ◌≤◌};
 ghost use Rattle.number_model.specs.Arithmetic as arithmetic;
 ghost use Rattle.number_code.specs.Models.{answer_of, binary_of, comparison_of, resize_of, IsResize};
 
-use crate::arith::{add, multiply, shift_left, shift_right, shift_right_unsigned, subtract, truncate, Binary, Flags, Given};
-use crate::division::{divide, divide_down, divide_unsigned, divide_up, divide_up_unsigned, rest, rest_unsigned};
+use crate::arith::{
+    Binary, Flags, Given, add, multiply, shift_left, shift_right, shift_right_unsigned, subtract,
+    truncate,
+};
+use crate::division::{
+    divide, divide_down, divide_unsigned, divide_up, divide_up_unsigned, rest, rest_unsigned,
+};
 use crate::widths::{signed, unsigned, wrapped};
 
 /// The comparisons of two numbers.
@@ -56,9 +61,17 @@ pub fn of_two(o: Binary, w: u32, a: u64, b: u64) -> Given
         Binary::ShiftRight => shift_right(w, a, b),
         Binary::ShiftRightUnsigned => shift_right_unsigned(w, a, b),
         Binary::Greater => Given::Number(if signed(w, b) < signed(w, a) { a } else { b }),
-        Binary::GreaterUnsigned => Given::Number(if unsigned(w, b) < unsigned(w, a) { a } else { b }),
+        Binary::GreaterUnsigned => Given::Number(if unsigned(w, b) < unsigned(w, a) {
+            a
+        } else {
+            b
+        }),
         Binary::Less => Given::Number(if signed(w, a) < signed(w, b) { a } else { b }),
-        Binary::LessUnsigned => Given::Number(if unsigned(w, a) < unsigned(w, b) { a } else { b }),
+        Binary::LessUnsigned => Given::Number(if unsigned(w, a) < unsigned(w, b) {
+            a
+        } else {
+            b
+        }),
     }
 }
 
