@@ -1,5 +1,5 @@
 -- Worked examples of forms.
-use Rattle.std.proofs.Common.{◌≡◌, ℕ, List, [], ◌∷◌, Option, Some, None, Bool, true, false, refl, ap, ◌∙◌}
+use Rattle.std.proofs.Common.{◌≡◌, ℕ, List, [], ◌∷◌, Some, None, Bool, true, false, refl, ap, ◌∙◌}
 use Rattle.std.specs.Prelude.{◌==◌, codes, ℤ, pos, negsuc}
 use Rattle.tree_model.specs.declared.type_tree.Dim.TheVariants.{Fixed, Dynamic}
 use Rattle.tree_model.specs.declared.type_tree.TypeTree.{TypeTree, out-TypeTree, fold_out-TypeTree}
@@ -8,14 +8,14 @@ use Rattle.tree_model.specs.declared.type_tree.TypeTree.TheVariants.{outs-Int, o
 use Rattle.tree_model.specs.declared.attr_tree.AttrTree.{AttrTree}
 use Rattle.tree_model.specs.declared.attr_tree.AttrTree as attr
 use Rattle.tree_model.specs.declared.attr_tree.AttrTree.TheVariants as parts
-use Rattle.number_model.specs.Arithmetic.{Flags, no_flags, Add, Multiply, Divide, DivideDown, ShiftRight, Below, AboveUnsigned, ExtendSigned, Extend, Truncate, Keep}
+use Rattle.number_model.specs.Arithmetic.{no_flags, Add, Multiply, Divide, DivideDown, Below, AboveUnsigned, ExtendSigned, Truncate, Keep}
 use Rattle.meaning_model.specs.Values.{Integer, Unset, together}
-use Rattle.meaning_model.specs.Pures.{Known, TwoNumbers, Compares, Resizes, Selects, Moves, TakesPart, MovesPointer, HasSizes, TakesSize}
+use Rattle.meaning_model.specs.Pures.{Known, TwoNumbers, Compares, Resizes, Moves, TakesPart, MovesPointer, HasSizes, TakesSize}
 use Rattle.meaning_model.specs.Calling.{Bare, Together}
 use Rattle.meaning_model.specs.Types.{same_type, same_at}
-use Rattle.meaning_model.specs.Forms.{Form, Layout, Computes, Branch, BranchOn, Call, Return, Load, Store, Allocate, AllocateAligned, Free, NewMemref, EndMemref, LoadElement, StoreElement, If, For, Switch, Yield, Unknown}
+use Rattle.meaning_model.specs.Forms.{Form, Computes, Branch, BranchOn, Call, Return, Load, Store, Allocate, AllocateAligned, Free, NewMemref, LoadElement, StoreElement, For, Switch, Unknown}
 use Rattle.meaning_model.specs.Properties.{Entries}
-use Rattle.meaning_model.specs.Classes.{Seen, form_of}
+use Rattle.meaning_model.specs.Classes.{form_of}
 
 abbrev of : List ℕ → ℕ → Entries → List TypeTree → List TypeTree → Form
 of name bits props operands results = form_of name (record { bits = bits; props = props; operands = operands; results = results })

@@ -1,25 +1,25 @@
 -- A worked example of decoding: a tree as a run sees it.
-use Rattle.std.proofs.Common.{◌≡◌, ℕ, List, [], ◌∷◌, ◌++◌, map, Option, Some, None, refl, ap, ◌∙◌}
-use Rattle.std.specs.Prelude.{codes, flat_map, ℤ, pos, negsuc}
+use Rattle.std.proofs.Common.{◌≡◌, ℕ, List, [], ◌∷◌, map, refl, ap, ◌∙◌}
+use Rattle.std.specs.Prelude.{codes, pos}
 use Rattle.tree_model.specs.declared.type_tree.TypeTree.{TypeTree, out-TypeTree}
 use Rattle.tree_model.specs.declared.type_tree.TypeTree as type
-use Rattle.tree_model.specs.declared.type_tree.TypeTree.TheVariants.{outs-Int, outs-Func}
+use Rattle.tree_model.specs.declared.type_tree.TypeTree.TheVariants.{outs-Int}
 use Rattle.tree_model.specs.declared.attr_tree.AttrTree as attr
 use Rattle.tree_model.specs.declared.attr_tree.AttrTree.TheVariants as parts
-use Rattle.tree_model.specs.declared.op_tree.OpTree.{OpTree, roll-OpTree, out-roll-OpTree, fold-roll-OpTree}
+use Rattle.tree_model.specs.declared.op_tree.OpTree.{OpTree, roll-OpTree, fold-roll-OpTree}
 use Rattle.tree_model.specs.declared.op_tree.BlockTree.{BlockTree, roll-BlockTree, fold-roll-BlockTree}
 use Rattle.tree_model.specs.declared.op_tree.RegionTree.{RegionTree, roll-RegionTree, fold-roll-RegionTree}
 use Rattle.tree_model.specs.declared.op_tree.BlockTree.TheOpen.{OpTree-F, BlockTree-F, RegionTree-F}
-use Rattle.tree_model.specs.declared.op_tree.BlockTree.TheFolds.{fold-OpTree, fold-BlockTree, fold-RegionTree}
+use Rattle.tree_model.specs.declared.op_tree.BlockTree.TheFolds.{fold-BlockTree, fold-RegionTree}
 use Rattle.number_model.specs.Arithmetic.{no_flags, Add}
 use Rattle.meaning_model.specs.Values.{Integer}
 use Rattle.meaning_model.specs.Pures.{Known, TwoNumbers}
 use Rattle.meaning_model.specs.Calling.{Bare}
 use Rattle.meaning_model.specs.Forms.{Computes, Return}
-use Rattle.meaning_model.specs.Codes.{Ops, OpsEnd, Op, Blocks, BlocksEnd, Block, Regions, RegionsEnd, Region, Function}
+use Rattle.meaning_model.specs.Codes.{Ops, OpsEnd, Op, Blocks, BlocksEnd, Block, Regions, RegionsEnd, Region}
 use Rattle.meaning_model.specs.Properties.{Entries}
 use Rattle.meaning_model.specs.Classes.{form_of}
-use Rattle.meaning_model.specs.Decoding.{Values, values_in, values_of_block, values_of_op, values_of_region, code_of, block_code, region_code, op_code, in_front, function_of}
+use Rattle.meaning_model.specs.Decoding.{Values, code_of, block_code, region_code, op_code, in_front}
 
 abbrev block_of : ℕ → Values → BlockTree → Blocks → Blocks
 block_of bits values = fold-BlockTree (Blocks → Blocks) (Ops → Ops) (Regions → Regions) block_code (op_code bits values) region_code

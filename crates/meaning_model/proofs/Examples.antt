@@ -2,16 +2,16 @@
 use Rattle.std.proofs.Common.{◌≡◌, ℕ, List, [], ◌∷◌, None, Some, refl}
 use Rattle.std.specs.Prelude.{map, ℤ, pos, negsuc, codes}
 use Rattle.number_model.specs.Numbers.{wrapped}
-use Rattle.number_model.specs.Arithmetic.{no_flags, Binary, Add, DivideUp, BelowUnsigned, Below}
-use Rattle.meaning_model.specs.Values.{Value, Integer, Unset, together}
-use Rattle.meaning_model.specs.Pures.{Known, TwoNumbers, Compares, Selects, Moves}
-use Rattle.meaning_model.specs.Calling.{Bare, Together}
-use Rattle.meaning_model.specs.Forms.{Form, Computes, Branch, BranchOn, Call, Return, Load, Store, Allocate, AllocateAligned, Free, NewMemref, EndMemref, LoadElement, StoreElement, If, For, While, Switch, Execute, Yield, Condition, Unknown}
-use Rattle.meaning_model.specs.Codes.{Ops, OpsEnd, Op, Blocks, BlocksEnd, Block, Regions, RegionsEnd, Region, Face, Function}
-use Rattle.meaning_model.specs.Worlds.{Stop, More, Undefined, Outside, NoRoom, ExternalCall}
+use Rattle.number_model.specs.Arithmetic.{no_flags, Add, BelowUnsigned, Below}
+use Rattle.meaning_model.specs.Values.{Integer, Unset}
+use Rattle.meaning_model.specs.Pures.{Known, TwoNumbers, Compares, Selects}
+use Rattle.meaning_model.specs.Calling.{Bare}
+use Rattle.meaning_model.specs.Forms.{Form, Computes, Branch, BranchOn, Call, Return, If, For, While, Switch, Execute, Yield, Condition, Unknown}
+use Rattle.meaning_model.specs.Codes.{Ops, OpsEnd, Op, BlocksEnd, Block, Regions, RegionsEnd, Region, Function}
+use Rattle.meaning_model.specs.Worlds.{More, Undefined, Outside, ExternalCall}
 use Rattle.meaning_model.specs.Buffers.{Heap, no_heap, ask_heap}
 use Rattle.meaning_model.specs.Cells.{no_cells, ask_cells}
-use Rattle.meaning_model.specs.Meaning.{End, Done, Stops, Result, structured, stepped, need_of}
+use Rattle.meaning_model.specs.Meaning.{End, Done, Stops, Result, structured, stepped}
 
 -- Functions of the examples
 

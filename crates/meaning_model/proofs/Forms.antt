@@ -1,6 +1,5 @@
 -- The two forms of S come to the same: the run of a code inside others, with what waits outside, is the run of the machine.
 use Rattle.std.proofs.Common.{◌≡◌, ℕ, zero, suc, ◌+◌, ◌*◌, ◌<◌, ◌≤◌, List, [], ◌∷◌, Bool, true, false, refl, sym, ap, ◌∙◌, arith}
-use Rattle.std.specs.Prelude.{ℤ}
 use Rattle.number_model.specs.Answers.{Answer, Gives, present}
 use Rattle.number_model.specs.Answers.{Answer as answer}
 use Rattle.meaning_model.specs.Values.{Value, Integer, number}
@@ -10,12 +9,12 @@ use Rattle.meaning_model.specs.Forms.{Form, If, For, While, Switch, Execute, Yie
 use Rattle.meaning_model.specs.Straight.{does}
 use Rattle.meaning_model.specs.Codes.{Ops, OpsEnd, Op, Blocks, BlocksEnd, Block, Regions, region_at, Target, entry, Function, find_function, Env, lookups, bind}
 use Rattle.meaning_model.specs.Worlds.{Stop, Reply, World}
-use Rattle.meaning_model.specs.Machine.{Spot, Behind, Counting, Looping, Frame, Once, Body, Before, After, Place, Step, Goes, Calls, Returns, Stops, within, stepping, performs, enters, leaves, has_round, tested, turns, next_number, counts, case_of, enters_once, yields, decided, decides, first_if, acts, step_at, Caller, Outcome, with_memory, stopped, ending, settles, resumes, external, begins, at_top, calls_body, gives_back, follows, exec}
-use Rattle.meaning_model.specs.Structured.{Code, Ahead, Round, Again, Ran, Yields, Decides, Returned, Stopped, Runs, taking, on_yield, on_condition, on_return, into, behind, once, round, test, again, while, settle, resume, call, follow, means, ahead, run_code, deep, runs, outcome_of}
+use Rattle.meaning_model.specs.Machine.{Spot, Behind, Counting, Looping, Frame, Once, Body, Before, After, Place, Step, Goes, Calls, Returns, Stops, within, stepping, performs, enters, leaves, has_round, tested, turns, next_number, counts, case_of, enters_once, yields, decided, decides, first_if, acts, Caller, Outcome, with_memory, stopped, ending, settles, resumes, external, begins, at_top, calls_body, gives_back, follows, exec}
+use Rattle.meaning_model.specs.Structured.{Code, Ahead, Round, Again, Ran, Yields, Decides, Returned, Stopped, Runs, taking, on_yield, on_condition, on_return, into, behind, once, round, test, again, while, settle, resume, call, follow, means, ahead, deep, runs, outcome_of}
 use Rattle.meaning_model.specs.Buffers.{no_heap, ask_heap}
 use Rattle.meaning_model.specs.Meaning.{Entry, entry_of, from_entry, result_of, first_world}
 use Rattle.meaning_model.specs.Promises.{SameForms}
-use Rattle.meaning_model.proofs.Spending.{Spends, taking_spends, into_spends, deep_spends}
+use Rattle.meaning_model.proofs.Spending.{Spends, into_spends, deep_spends}
 
 module _ {State : Type 0} (ask : Question → State → Reply State) (fs : List Function) where
   -- what a step comes to with so much fuel

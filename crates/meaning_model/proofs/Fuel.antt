@@ -1,5 +1,5 @@
 -- What a run leaves of its world, and what more fuel makes of a run.
-use Rattle.std.proofs.Common.{◌≡◌, ◌⊎◌, inl, inr, ℕ, zero, suc, ◌≤◌, List, [], ◌∷◌, ◌++◌, Bool, true, false, refl, sym, ap, subst, ◌∙◌, append_assoc, append-nil, arith}
+use Rattle.std.proofs.Common.{◌≡◌, ◌⊎◌, inl, inr, ℕ, zero, suc, ◌≤◌, List, [], ◌∷◌, ◌++◌, Bool, true, false, refl, sym, ap, ◌∙◌, append_assoc, append-nil, arith}
 use Rattle.std.specs.Prelude.{length, ◌==◌, if◌then◌else◌}
 use Rattle.number_model.specs.Answers.{Answer, Gives, and_then, present}
 use Rattle.number_model.specs.Answers.{Answer as answer}
@@ -11,7 +11,7 @@ use Rattle.meaning_model.specs.Forms.{Form, If, For, While, Switch, Execute, Yie
 use Rattle.meaning_model.specs.Straight.{does}
 use Rattle.meaning_model.specs.Codes.{Ops, OpsEnd, Op, Blocks, BlocksEnd, Block, Regions, region_at, Target, entry, find_block, Function, find_function, Env, lookups, bind}
 use Rattle.meaning_model.specs.Worlds.{Stop, More, Undefined, Outside, Reply, Answers, Refuses, ExternalCall, World}
-use Rattle.meaning_model.specs.Machine.{Spot, Behind, Counting, Looping, Frame, Once, Body, Before, After, Place, Step, Goes, Calls, Returns, Stops, within, stepping, at_block, on_reply, performs, enters, leaves, has_round, tested, turns, next_number, counts, case_of, enters_once, yields, decided, decides, first_if, acts, step_at, step, Caller, Outcome, Finish, Returned, Stopped, with_memory, stopped, ending, Next, settles, resumes, external, tells, Told, begins, at_top, calls_body, gives_back, follows, exec}
+use Rattle.meaning_model.specs.Machine.{Spot, Behind, Counting, Looping, Frame, Once, Body, Before, After, Place, Step, Goes, Calls, Returns, Stops, within, stepping, on_reply, performs, enters, leaves, has_round, tested, turns, next_number, counts, case_of, enters_once, yields, decided, decides, first_if, acts, step_at, step, Caller, Outcome, Finish, Returned, Stopped, with_memory, stopped, ending, Next, settles, resumes, external, tells, Told, begins, at_top, calls_body, gives_back, follows, exec}
 use Rattle.meaning_model.specs.Promises.{IsPrefix}
 
 prefix_refl : (xs : List ExternalCall) → IsPrefix xs xs

@@ -1,18 +1,18 @@
 -- Laws of whole runs over the two memories.
-use Rattle.std.proofs.Common.{◌≡◌, ◌⊎◌, inl, inr, ℕ, ◌≤◌, List, [], ◌∷◌, Bool, true, false, Option, Some, None, refl, sym, ap, subst, arith}
+use Rattle.std.proofs.Common.{inl, inr, ℕ, ◌≤◌, List, [], ◌∷◌, Bool, true, false, Option, Some, None, refl, sym, ap, subst, arith}
 use Rattle.std.specs.Prelude.{◌%◌, ◌^◌, ◌==◌, nat_lt, ◌&&◌, ℤ, if◌then◌else◌}
 use Rattle.number_model.specs.Answers.{Answer, Gives}
 use Rattle.number_model.specs.Answers.{Answer as answer}
-use Rattle.meaning_model.specs.Values.{Value, Integer, Place}
+use Rattle.meaning_model.specs.Values.{Integer, Place}
 use Rattle.meaning_model.specs.Doings.{Question, Load, Store, Allocate, Free}
 use Rattle.meaning_model.specs.Codes.{Function}
-use Rattle.meaning_model.specs.Worlds.{Stop, More, Undefined, Outside, NoRoom, Reply, Answers, Refuses, World}
+use Rattle.meaning_model.specs.Worlds.{Stop, Undefined, NoRoom, Reply, Answers, Refuses}
 use Rattle.meaning_model.specs.Machine.{Outcome, Finish, Returned, Stopped, at_top, exec}
 use Rattle.meaning_model.specs.Buffers.{Heap, Buffer, no_heap, ask_heap, holds, bytes_from, put_bytes, loaded, load_from, with_bytes, changed, store_to, ended, free_at, buffer_at}
 use Rattle.meaning_model.specs.Straight.{byte_size}
-use Rattle.meaning_model.specs.Cells.{Cells, Allocation, no_cells, ask_cells}
-use Rattle.meaning_model.specs.Meaning.{End, Done, Stops, Result, Entry, entry_of, from_entry, result_of, results, end_of, finished, first_world, structured, stepped, need_of}
-use Rattle.meaning_model.specs.Promises.{IsPrefix, IsContinued, MoreFuel, IsContinuedCells, MoreFuelCells, AlwaysRoom}
+use Rattle.meaning_model.specs.Cells.{Cells, no_cells, ask_cells}
+use Rattle.meaning_model.specs.Meaning.{End, Done, Stops, Entry, entry_of, from_entry, result_of, results, end_of, finished, first_world, structured, stepped}
+use Rattle.meaning_model.specs.Promises.{IsContinued, MoreFuel, IsContinuedCells, MoreFuelCells, AlwaysRoom}
 use Rattle.meaning_model.proofs.Forms.{same_forms}
 use Rattle.meaning_model.proofs.Fuel as fuel_laws
 

@@ -1,5 +1,5 @@
 -- The structured meaning spends fuel: what is left behind a code is less than before it.
-use Rattle.std.proofs.Common.{◌≡◌, ℕ, zero, suc, ◌<◌, ◌≤◌, List, [], ◌∷◌, Bool, true, false, arith}
+use Rattle.std.proofs.Common.{ℕ, zero, suc, ◌<◌, ◌≤◌, List, [], ◌∷◌, Bool, true, false, arith}
 use Rattle.number_model.specs.Answers.{Answer, Gives, present}
 use Rattle.number_model.specs.Answers.{Answer as answer}
 use Rattle.meaning_model.specs.Values.{Value, Integer, number}
@@ -8,7 +8,7 @@ use Rattle.meaning_model.specs.Doings.{Doing, Question}
 use Rattle.meaning_model.specs.Forms.{Form, If, For, While, Switch, Execute, Yield, Condition}
 use Rattle.meaning_model.specs.Straight.{does}
 use Rattle.meaning_model.specs.Codes.{Ops, OpsEnd, Op, Blocks, BlocksEnd, Block, Regions, region_at, Target, entry, Function, find_function, Env, lookups, bind}
-use Rattle.meaning_model.specs.Worlds.{Stop, Reply, World}
+use Rattle.meaning_model.specs.Worlds.{Reply, World}
 use Rattle.meaning_model.specs.Machine.{Spot, Behind, Counting, Looping, Step, Goes, Calls, Returns, Stops, performs, has_round, next_number, counts, case_of, first_if, begins, external}
 use Rattle.meaning_model.specs.Structured.{Code, Ahead, Round, Again, Ran, Yields, Decides, Returned, Stopped, Runs, taking, on_yield, on_condition, on_return, into, behind, once, round, test, again, while, settle, resume, call, follow, means, ahead, run_code, deep}
 

@@ -1,11 +1,11 @@
 -- The form of each operation, by its name, its properties and its types.
-use Rattle.std.specs.Prelude.{ℕ, zero, suc, ◌==◌, nat_lt, Bool, true, false, List, [], ◌∷◌, ◌++◌, map, length, Option, Some, None, ℤ, codes, if◌then◌else◌}
+use Rattle.std.specs.Prelude.{ℕ, zero, suc, nat_lt, List, [], ◌∷◌, ◌++◌, map, length, Option, Some, None, codes, if◌then◌else◌}
 use Rattle.std.specs.Option.{option_map, unwrap_or}
 use Rattle.std.specs.Str.{bytes_eq}
 use Rattle.tree_model.specs.declared.type_tree.TypeTree.{TypeTree}
 use Rattle.number_model.specs.Numbers.{unsigned, wrapped}
 use Rattle.number_model.specs.Arithmetic.{Flags, no_flags, Binary, Add, Subtract, Multiply, ShiftLeft, Divide, DivideUnsigned, Remainder, RemainderUnsigned, DivideUp, DivideDown, DivideUpUnsigned, And, Or, Xor, ShiftRight, ShiftRightUnsigned, Greater, GreaterUnsigned, Less, LessUnsigned, Resize, ExtendSigned, Extend, Truncate, Keep}
-use Rattle.meaning_model.specs.Values.{Value, Integer}
+use Rattle.meaning_model.specs.Values.{Integer}
 use Rattle.meaning_model.specs.Pures.{Pure, Known, TwoNumbers, Compares, Resizes, Selects, Moves, TakesPart, PutsPart, MovesPointer, HasSizes, TakesSize}
 use Rattle.meaning_model.specs.Calling.{Bare, packing_of}
 use Rattle.meaning_model.specs.Straight.{byte_size}

@@ -1,5 +1,5 @@
 -- Functions as a run sees them: each operation by its form, each value by its number.
-use Rattle.std.specs.Prelude.{ℕ, zero, suc, ◌==◌, Bool, List, [], ◌∷◌, Option, Some, None, if◌then◌else◌}
+use Rattle.std.specs.Prelude.{ℕ, zero, suc, ◌==◌, List, [], ◌∷◌, Option, Some, None, if◌then◌else◌}
 use Rattle.std.specs.Str.{bytes_eq}
 use Rattle.meaning_model.specs.Values.{Value}
 use Rattle.meaning_model.specs.Calling.{Shapes, Packing}

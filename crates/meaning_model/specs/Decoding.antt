@@ -1,19 +1,16 @@
 -- From the tree of a module to its functions as a run sees them.
-use Rattle.std.specs.Prelude.{ℕ, ◌==◌, nat_le, Bool, true, false, List, [], ◌∷◌, ◌++◌, map, flat_map, length, Option, Some, None, codes, if◌then◌else◌}
+use Rattle.std.specs.Prelude.{ℕ, ◌==◌, List, [], ◌∷◌, ◌++◌, map, flat_map, length, Option, Some, None, codes, if◌then◌else◌}
 use Rattle.std.specs.Option.{option_map, unwrap_or}
-use Rattle.std.specs.Str.{bytes_eq}
 use Rattle.tree_model.specs.declared.type_tree.TypeTree.{TypeTree, out-TypeTree}
 use Rattle.tree_model.specs.declared.type_tree.TypeTree as type
 use Rattle.tree_model.specs.declared.type_tree.TypeTree.TheOpen.{TypeTree-F}
 use Rattle.tree_model.specs.declared.op_tree.OpTree.{OpTree, out-OpTree}
-use Rattle.tree_model.specs.declared.op_tree.BlockTree.{BlockTree}
-use Rattle.tree_model.specs.declared.op_tree.RegionTree.{RegionTree}
 use Rattle.tree_model.specs.declared.op_tree.BlockTree.TheOpen.{OpTree-F, BlockTree-F, RegionTree-F}
 use Rattle.tree_model.specs.declared.op_tree.BlockTree.TheFolds.{fold-OpTree}
 use Rattle.tree_model.specs.declared.op_tree.FuncTree.{FuncTree}
 use Rattle.tree_model.specs.declared.op_tree.ModuleTree.{ModuleTree}
 use Rattle.meaning_model.specs.Calling.{Packing, Bare, Together, packing_of}
-use Rattle.meaning_model.specs.Types.{width_of, widths_of, shape_of}
+use Rattle.meaning_model.specs.Types.{widths_of, shape_of}
 use Rattle.meaning_model.specs.Properties.{Entries, if_some, type_of, text_of}
 use Rattle.meaning_model.specs.Classes.{form_of}
 use Rattle.meaning_model.specs.Codes.{Ops, OpsEnd, Op, Blocks, BlocksEnd, Block, Regions, RegionsEnd, Region, Face, Function}

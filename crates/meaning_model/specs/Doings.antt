@@ -1,5 +1,5 @@
 -- What an operation without regions does: a question with a way to go on.
-use Rattle.std.specs.Prelude.{ℕ, List, [], ◌∷◌}
+use Rattle.std.specs.Prelude.{ℕ, List}
 use Rattle.number_model.specs.Answers.{Answer, Gives}
 use Rattle.number_model.specs.Answers.{Answer as answer}
 use Rattle.meaning_model.specs.Values.{Value, Place}

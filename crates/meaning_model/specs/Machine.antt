@@ -1,6 +1,5 @@
 -- The machine: one operation a step, with the regions that wait and the calls that are under way in lists.
-use Rattle.std.specs.Prelude.{ℕ, zero, suc, ◌+◌, ◌==◌, Bool, true, false, not, List, [], ◌∷◌, map, length, Option, Some, None, ℤ, pos, ◌+ℤ◌, int_lt, if◌then◌else◌}
-use Rattle.std.specs.Ordering.{int_eq}
+use Rattle.std.specs.Prelude.{ℕ, zero, suc, ◌+◌, ◌==◌, Bool, true, false, not, List, [], ◌∷◌, map, length, ℤ, pos, ◌+ℤ◌, int_lt, if◌then◌else◌}
 use Rattle.number_model.specs.Numbers.{unsigned, signed, wrapped, fits_signed}
 use Rattle.number_model.specs.Answers.{Answer, Gives, and_then, undefined_if, present}
 use Rattle.number_model.specs.Answers.{Answer as answer}
@@ -11,8 +10,8 @@ use Rattle.meaning_model.specs.Doings.{Doing as doing}
 use Rattle.meaning_model.specs.Calling.{packed, gathered}
 use Rattle.meaning_model.specs.Forms.{Form, If, For, While, Switch, Execute, Yield, Condition}
 use Rattle.meaning_model.specs.Straight.{does}
-use Rattle.meaning_model.specs.Codes.{Ops, OpsEnd, Op, Blocks, BlocksEnd, Block, Regions, region_at, Target, entry, find_block, Face, Function, find_function, Env, lookups, bind}
-use Rattle.meaning_model.specs.Worlds.{Stop, More, Undefined, Outside, Reply, Answers, Refuses, Memory, ExternalCall, World, answered, all_signed, told}
+use Rattle.meaning_model.specs.Codes.{Ops, OpsEnd, Op, Blocks, BlocksEnd, Block, Regions, region_at, Target, entry, find_block, Function, find_function, Env, lookups, bind}
+use Rattle.meaning_model.specs.Worlds.{Stop, More, Undefined, Outside, Reply, Answers, Refuses, World, answered, all_signed, told}
 
 -- Places
 

@@ -1,5 +1,5 @@
 -- The meaning of a module: what a run of one of its functions comes to.
-use Rattle.std.specs.Prelude.{ℕ, zero, suc, ◌==◌, Bool, true, false, ◌&&◌, ◌||◌, List, [], ◌∷◌, map, length, Option, Some, None, ℤ, if◌then◌else◌}
+use Rattle.std.specs.Prelude.{ℕ, Bool, ◌||◌, List, [], ◌∷◌, ℤ, if◌then◌else◌}
 use Rattle.tree_model.specs.declared.op_tree.ModuleTree.{ModuleTree}
 use Rattle.number_model.specs.Numbers.{wrapped, fits_signed, fits_unsigned}
 use Rattle.number_model.specs.Answers.{Answer, Gives, and_then, with_answer, present}
@@ -7,8 +7,8 @@ use Rattle.number_model.specs.Answers.{Answer as answer}
 use Rattle.meaning_model.specs.Values.{Value, Integer, numbers}
 use Rattle.meaning_model.specs.Doings.{Question}
 use Rattle.meaning_model.specs.Calling.{unpacked}
-use Rattle.meaning_model.specs.Codes.{Blocks, BlocksEnd, Block, Face, Function, find_function}
-use Rattle.meaning_model.specs.Worlds.{Stop, More, Undefined, Outside, NoRoom, Reply, ExternalCall, World, all_signed}
+use Rattle.meaning_model.specs.Codes.{Blocks, BlocksEnd, Block, Function, find_function}
+use Rattle.meaning_model.specs.Worlds.{Stop, Undefined, Outside, Reply, ExternalCall, World, all_signed}
 use Rattle.meaning_model.specs.Machine.{Spot, begins, at_top, Outcome, Finish, Returned, Stopped, exec}
 use Rattle.meaning_model.specs.Structured.{runs, outcome_of}
 use Rattle.meaning_model.specs.Buffers.{Heap, no_heap, ask_heap}

@@ -1,10 +1,10 @@
 -- Laws of the definitions.
 use Rattle.std.specs.Prelude.{◌≡◌, ◌⊎◌, ℕ, ◌≤◌, List, ◌++◌, ℤ}
 use Rattle.meaning_model.specs.Codes.{Function}
-use Rattle.meaning_model.specs.Worlds.{Stop, More, NoRoom, ExternalCall}
+use Rattle.meaning_model.specs.Worlds.{More, NoRoom, ExternalCall}
 use Rattle.meaning_model.specs.Buffers.{Heap, no_heap, ask_heap}
 use Rattle.meaning_model.specs.Cells.{Cells, no_cells, ask_cells}
-use Rattle.meaning_model.specs.Meaning.{Result, End, Stops, structured, stepped, need_of}
+use Rattle.meaning_model.specs.Meaning.{Result, Stops, structured, stepped, need_of}
 
 -- The structured meaning and the machine come to the same: the same end, the same calls of external functions, the same memory and so
 -- the same need, with the same fuel.

@@ -1,8 +1,8 @@
 -- The operations that only compute.
-use Rattle.std.specs.Prelude.{ℕ, suc, ◌+◌, ◌*◌, ◌%◌, ◌^◌, ◌==◌, nat_lt, Bool, true, false, not, ◌&&◌, List, [], ◌∷◌, Option, Some, None, ℤ, pos, ◌+ℤ◌, ◌*ℤ◌, int_lt, int_le, if◌then◌else◌}
+use Rattle.std.specs.Prelude.{ℕ, ◌+◌, ◌*◌, ◌==◌, nat_lt, Bool, not, ◌&&◌, List, [], ◌∷◌, Option, Some, None, ℤ, pos, ◌+ℤ◌, ◌*ℤ◌, int_lt, int_le, if◌then◌else◌}
 use Rattle.std.specs.Ordering.{int_eq}
 use Rattle.number_model.specs.Numbers.{unsigned, signed, wrapped}
-use Rattle.number_model.specs.Answers.{Answer, Gives, Undefined, Outside, and_then, with_answer, undefined_if}
+use Rattle.number_model.specs.Answers.{Answer, Gives, Outside, and_then, with_answer, undefined_if}
 use Rattle.number_model.specs.Arithmetic.{Binary, binary, Comparison, compares, Resize, resize, bit}
 use Rattle.meaning_model.specs.Values.{Value, Integer, Pointer, Place, number, place_of, part_at, with_part, size_path, stride_path, offset_path, aligned_path}
 

@@ -1,11 +1,11 @@
 -- What each operation without regions does.
-use Rattle.std.specs.Prelude.{ℕ, zero, suc, ◌+◌, ◌*◌, ◌%◌, ◌^◌, ◌-◌, ◌==◌, nat_lt, nat_le, Bool, true, false, not, ◌&&◌, ◌||◌, List, [], ◌∷◌, length, take, drop, Option, Some, None, if◌then◌else◌}
+use Rattle.std.specs.Prelude.{ℕ, ◌+◌, ◌*◌, ◌%◌, ◌^◌, ◌-◌, ◌==◌, nat_lt, nat_le, Bool, true, false, not, ◌&&◌, List, [], ◌∷◌, length, take, drop, Option, Some, None, if◌then◌else◌}
 use Rattle.std.specs.List.{list_any}
 use Rattle.number_model.specs.Numbers.{unsigned}
 use Rattle.number_model.specs.Answers.{Answer, Gives, Outside, and_then, with_answer, undefined_if}
-use Rattle.meaning_model.specs.Values.{Value, Integer, Place, place_of, number, part_at, allocated_path, descriptor}
+use Rattle.meaning_model.specs.Values.{Value, Integer, place_of, number, part_at, allocated_path, descriptor}
 use Rattle.meaning_model.specs.Pures.{gives, truth, element_place}
-use Rattle.meaning_model.specs.Doings.{Doing, Ends, Asks, Calls, Jumps, Returns, on, Question}
+use Rattle.meaning_model.specs.Doings.{Doing, Ends, Asks, Calls, Jumps, Returns, on}
 use Rattle.meaning_model.specs.Doings.{Doing as doing}
 use Rattle.meaning_model.specs.Doings.{Question as question}
 use Rattle.meaning_model.specs.Calling.{spread, packed, unpacked}

@@ -1,5 +1,5 @@
 -- The structured meaning: a region is run to its end inside the run of the operation that holds it, a function inside the run of its call.
-use Rattle.std.specs.Prelude.{ℕ, zero, suc, ◌+◌, ◌*◌, Bool, true, false, List, [], ◌∷◌, Option, Some, None}
+use Rattle.std.specs.Prelude.{ℕ, zero, suc, ◌+◌, ◌*◌, Bool, true, false, List, [], ◌∷◌}
 use Rattle.number_model.specs.Answers.{Answer, Gives, present}
 use Rattle.number_model.specs.Answers.{Answer as answer}
 use Rattle.meaning_model.specs.Values.{Value, Integer, number}

@@ -1,5 +1,5 @@
 -- Values, and what it is to look at them.
-use Rattle.std.specs.Prelude.{ℕ, zero, suc, ◌+◌, List, [], ◌∷◌, ◌++◌, map, take, drop, Option, Some, None}
+use Rattle.std.specs.Prelude.{ℕ, zero, suc, ◌+◌, List, [], ◌∷◌, ◌++◌, map, take, drop}
 use Rattle.std.specs.List.{slice_get}
 use Rattle.number_model.specs.Answers.{Answer, Gives, Undefined, Outside, and_then, with_answer, present}
 

@@ -1,5 +1,5 @@
 -- Memories, and what the outside tells and is told.
-use Rattle.std.specs.Prelude.{ℕ, List, [], ◌∷◌, ◌++◌, ℤ, pos}
+use Rattle.std.specs.Prelude.{ℕ, List, [], ◌∷◌, ◌++◌, ℤ}
 use Rattle.number_model.specs.Numbers.{signed, wrapped}
 use Rattle.meaning_model.specs.Values.{Value}
 use Rattle.meaning_model.specs.Doings.{Question}

@@ -1,15 +1,12 @@
 -- Division by signed numbers, over the integers and then at a width.
-use Rattle.std.proofs.Common.{◌≡◌, ◌⊎◌, inl, inr, ℕ, zero, suc, ◌+◌, ◌*◌, ◌-◌, ◌/◌, ◌%◌, ◌^◌, ◌<◌, ◌≤◌, Bool, true, false, refl, sym, ap, subst, ◌∙◌, true≢false, arith}
-use Rattle.std.specs.Prelude.{ℤ, pos, negsuc, neg_ℤ, ◌+ℤ◌, ◌-ℤ◌, ◌*ℤ◌, not, ◌&&◌, ◌||◌, ◌==◌, int_lt, int_div, int_rem, unsigned_abs, nat_lt, if◌then◌else◌}
+use Rattle.std.proofs.Common.{◌≡◌, inl, inr, ℕ, zero, suc, ◌-◌, ◌%◌, ◌<◌, Bool, true, false, refl, sym, ap, subst, ◌∙◌, true≢false, arith}
+use Rattle.std.specs.Prelude.{ℤ, pos, negsuc, neg_ℤ, ◌+ℤ◌, ◌-ℤ◌, ◌*ℤ◌, not, ◌&&◌, int_lt, int_div, int_rem, unsigned_abs, if◌then◌else◌}
 use Rattle.std.specs.Ordering.{int_eq}
 use Rattle.std.proofs.lemmas.Bool.Decides.{Decides-int_eq}
 use Rattle.std.proofs.lemmas.Int.{ints, quot-rem, rem_below}
-use Rattle.std.proofs.Math.IntN.{suc_ℤ-*ℤ, pred_ℤ-*ℤ, +ℤ_one, -ℤ_one, suc_ℤ, pred_ℤ}
-use Rattle.number_model.specs.Numbers.{unsigned, signed, wrapped, fits_signed, least}
-use Rattle.number_model.specs.Answers.{Answer, Gives, Undefined, undefined_if}
-use Rattle.number_model.specs.Arithmetic.{unlike, have_unlike_signs, lies_below, lies_above, quotient_up, quotient_down, no_quotient, divided}
+use Rattle.std.proofs.Math.IntN.{suc_ℤ-*ℤ, pred_ℤ-*ℤ, +ℤ_one, -ℤ_one}
+use Rattle.number_model.specs.Arithmetic.{have_unlike_signs, quotient_up, quotient_down}
 use Rattle.number_model.specs.Promises.{HasSignOf, IsDivision, IsRoundedUp, IsRoundedDown}
-use Rattle.number_model.proofs.Signed.{signed-wrapped}
 
 -- the remainder has the sign of what is divided
 rem_sign : (a b : ℤ) → HasSignOf (int_rem a b) a

@@ -1,9 +1,9 @@
 -- Worked examples of the arithmetic: each line is what an operation gives at a width.
-use Rattle.std.proofs.Common.{◌≡◌, ℕ, ◌^◌, ◌-◌, true, false, refl}
+use Rattle.std.proofs.Common.{◌≡◌, ℕ, true, false, refl}
 use Rattle.std.specs.Prelude.{ℤ, pos, negsuc}
 use Rattle.number_model.specs.Numbers.{signed, wrapped}
 use Rattle.number_model.specs.Answers.{Answer, Gives, Undefined}
-use Rattle.number_model.specs.Arithmetic.{Flags, no_flags, Binary, binary, Add, Subtract, Multiply, ShiftLeft, Divide, DivideUnsigned, Remainder, RemainderUnsigned, DivideUp, DivideDown, DivideUpUnsigned, And, Or, Xor, ShiftRight, ShiftRightUnsigned, Greater, GreaterUnsigned, Less, LessUnsigned, compares, Below, BelowUnsigned, AtLeast, AtLeastUnsigned, resize, ExtendSigned, Extend, Truncate, Keep}
+use Rattle.number_model.specs.Arithmetic.{Flags, no_flags, Binary, binary, Add, Subtract, Multiply, ShiftLeft, Divide, DivideUnsigned, Remainder, RemainderUnsigned, DivideUp, DivideDown, DivideUpUnsigned, And, Or, Xor, ShiftRight, ShiftRightUnsigned, Greater, GreaterUnsigned, Less, LessUnsigned, compares, Below, BelowUnsigned, AtLeast, AtLeastUnsigned, resize, ExtendSigned, Extend, Truncate}
 
 abbrev nsw : Flags
 nsw = record { signed = true; unsigned = false }

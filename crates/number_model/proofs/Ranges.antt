@@ -1,14 +1,13 @@
 -- Which quotients and remainders are signed numbers of the width, and the laws of division at a width.
-use Rattle.std.proofs.Common.{◌≡◌, ◌⊎◌, inl, inr, ℕ, zero, suc, ◌+◌, ◌*◌, ◌-◌, ◌/◌, ◌%◌, ◌^◌, ◌<◌, ◌≤◌, Bool, true, false, refl, sym, ap, subst, ◌∙◌, true≢false, arith}
-use Rattle.std.specs.Prelude.{ℤ, pos, negsuc, neg_ℤ, ◌+ℤ◌, ◌-ℤ◌, ◌*ℤ◌, not, ◌&&◌, ◌||◌, ◌==◌, int_lt, int_div, int_rem, unsigned_abs, nat_lt, if◌then◌else◌}
+use Rattle.std.proofs.Common.{◌≡◌, ℕ, zero, suc, ◌+◌, ◌*◌, ◌-◌, ◌/◌, ◌%◌, ◌^◌, ◌<◌, ◌≤◌, Bool, true, false, refl, sym, ap, subst, ◌∙◌, true≢false, arith}
+use Rattle.std.specs.Prelude.{ℤ, pos, negsuc, neg_ℤ, ◌+ℤ◌, ◌-ℤ◌, not, ◌&&◌, ◌||◌, int_div, int_rem, unsigned_abs, nat_lt, if◌then◌else◌}
 use Rattle.std.specs.Ordering.{int_eq}
 use Rattle.std.proofs.lemmas.Bool.Decides.{Decides-int_eq}
-use Rattle.std.proofs.lemmas.Int.{ints}
 use Rattle.std.proofs.Math.Nat.{div-le_self, mod-lt, div-add-mod', div-lt_self, mod-one}
 use lib.Signed.{mag, mag_rem}
 use Rattle.number_model.specs.Numbers.{unsigned, signed_below, signed, wrapped, fits_signed, least}
 use Rattle.number_model.specs.Answers.{Answer, Gives, Undefined, Outside, undefined_if}
-use Rattle.number_model.specs.Arithmetic.{unlike, have_unlike_signs, lies_below, lies_above, quotient_up, quotient_down, no_quotient, divided}
+use Rattle.number_model.specs.Arithmetic.{have_unlike_signs, lies_below, lies_above, quotient_up, quotient_down, no_quotient}
 use Rattle.number_model.specs.Promises.{IsDivision, DividesTowardsZero, DividesUp, DividesDown, IsRoundedUp, IsRoundedDown}
 use Rattle.number_model.proofs.Signed.{signed-wrapped, two_halves, half_above, from_below}
 use Rattle.number_model.proofs.Divisions.{towards_zero, up_is, down_is}

@@ -1,12 +1,12 @@
 -- Each operation gives a number of its width.
-use Rattle.std.proofs.Common.{◌≡◌, ℕ, zero, suc, ◌+◌, ◌*◌, ◌-◌, ◌/◌, ◌%◌, ◌^◌, ◌<◌, ◌≤◌, min, Bool, true, false, refl, sym, ap, subst, ◌∙◌, arith}
-use Rattle.std.specs.Prelude.{ℤ, pos, negsuc, ◌+ℤ◌, ◌*ℤ◌, ◌==◌, nat_lt, bit_and, bit_or, bit_xor, if◌then◌else◌}
+use Rattle.std.proofs.Common.{◌≡◌, ℕ, zero, suc, ◌+◌, ◌*◌, ◌/◌, ◌%◌, ◌^◌, ◌<◌, ◌≤◌, min, Bool, true, false, refl, subst, arith}
+use Rattle.std.specs.Prelude.{ℤ, pos, negsuc, ◌+ℤ◌, ◌*ℤ◌, ◌==◌}
 use Rattle.std.specs.Int.{div_ceil}
 use Rattle.std.proofs.Math.Nat.{mod-lt, mod-le, div-le_self, div-add-mod'}
 use Rattle.std.proofs.lemmas.Nat.{and_le_l, or_lt, xor_lt}
 use Rattle.std.proofs.Math.Pow.{pow_pos}
 use Rattle.number_model.specs.Numbers.{unsigned, wrapped}
-use Rattle.number_model.specs.Answers.{Answer, Gives, Undefined, Outside, undefined_if}
+use Rattle.number_model.specs.Answers.{Answer, Gives, undefined_if}
 use Rattle.number_model.specs.Arithmetic.{Flags, breaks, wrapping, divided_unsigned, chosen, Binary, binary, Add, Subtract, Multiply, ShiftLeft, Divide, DivideUnsigned, Remainder, RemainderUnsigned, DivideUp, DivideDown, DivideUpUnsigned, And, Or, Xor, ShiftRight, ShiftRightUnsigned, Greater, GreaterUnsigned, Less, LessUnsigned}
 use Rattle.number_model.specs.Promises.{StaysInWidth, Fits, target, ResizesToWidth}
 use Rattle.number_model.specs.Arithmetic.{Resize, ExtendSigned, Extend, Truncate, Keep, resize}

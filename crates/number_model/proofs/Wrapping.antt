@@ -1,8 +1,8 @@
 -- Sums, differences and products modulo 2 to a width.
-use Rattle.std.proofs.Common.{◌≡◌, ℕ, zero, suc, ◌+◌, ◌*◌, ◌-◌, ◌/◌, ◌%◌, ◌^◌, ◌<◌, ◌≤◌, refl, sym, ap, ap₂, subst, ◌∙◌, arith}
+use Rattle.std.proofs.Common.{◌≡◌, ℕ, suc, ◌+◌, ◌*◌, ◌-◌, ◌/◌, ◌%◌, ◌^◌, ◌<◌, ◌≤◌, sym, ap, ap₂, ◌∙◌, arith}
 use Rattle.std.specs.Prelude.{ℤ, pos, negsuc, neg_ℤ, ◌+ℤ◌, ◌-ℤ◌, ◌*ℤ◌}
 use Rattle.std.proofs.lemmas.Int.{ints}
-use Rattle.std.proofs.Math.Nat.{mod-lt, mod-mod, div-add-mod', add-mul-mod_self_right, add-mod, mod-eq_of_lt, add-mul, le_of_lt}
+use Rattle.std.proofs.Math.Nat.{mod-lt, mod-mod, div-add-mod', add-mul-mod_self_right, add-mod, add-mul, le_of_lt}
 use Rattle.std.proofs.Math.IntN.{*ℤ_comm}
 use Rattle.std.proofs.lemmas.Nat.{mod-mul-add, mul-mod, div_below}
 use Rattle.std.proofs.Math.Pow.{pow_pos}

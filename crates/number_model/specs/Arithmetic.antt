@@ -1,9 +1,9 @@
 -- Arithmetic on numbers of w bits, and where it is undefined.
-use Rattle.std.specs.Prelude.{ℕ, suc, ◌+◌, ◌*◌, ◌/◌, ◌%◌, ◌^◌, ◌==◌, nat_lt, nat_le, Bool, true, false, not, ◌&&◌, ◌||◌, ℤ, pos, negsuc, ◌+ℤ◌, ◌-ℤ◌, ◌*ℤ◌, int_lt, int_le, int_div, int_rem, bit_and, bit_or, bit_xor, if◌then◌else◌}
+use Rattle.std.specs.Prelude.{ℕ, ◌/◌, ◌%◌, ◌^◌, ◌==◌, nat_lt, nat_le, Bool, true, false, not, ◌&&◌, ◌||◌, ℤ, pos, negsuc, ◌+ℤ◌, ◌-ℤ◌, ◌*ℤ◌, int_lt, int_le, int_div, int_rem, bit_and, bit_or, bit_xor, if◌then◌else◌}
 use Rattle.std.specs.Ordering.{int_eq}
 use Rattle.std.specs.Int.{div_ceil, int_shr}
 use Rattle.number_model.specs.Numbers.{unsigned, signed, wrapped, fits_signed, fits_unsigned, least}
-use Rattle.number_model.specs.Answers.{Answer, Gives, Undefined, undefined_if}
+use Rattle.number_model.specs.Answers.{Answer, Gives, undefined_if}
 
 -- the promises that an operation may carry: no signed wrap, no unsigned wrap
 pub record Flags : Type 0 where

@@ -1,5 +1,5 @@
 -- Numbers of w bits. A number stands for each number that is equal to it modulo 2^w, so it is read modulo 2^w wherever it is used.
-use Rattle.std.specs.Prelude.{ℕ, suc, ◌-◌, ◌%◌, ◌^◌, nat_lt, Bool, true, false, ℤ, pos, negsuc, if◌then◌else◌}
+use Rattle.std.specs.Prelude.{ℕ, suc, ◌-◌, ◌%◌, ◌^◌, nat_lt, Bool, false, ℤ, pos, negsuc, if◌then◌else◌}
 
 -- as an unsigned number
 abbrev pub unsigned : ℕ → ℕ → ℕ
