@@ -3,12 +3,12 @@ use Rattle.std.proofs.Common.{◌≡◌, ℕ, List, [], ◌∷◌, None, Some, r
 use Rattle.std.specs.Prelude.{map, ℤ, pos, negsuc, codes}
 use Rattle.number_model.specs.Numbers.{wrapped}
 use Rattle.number_model.specs.Arithmetic.{no_flags, Add, BelowUnsigned, Below}
-use Rattle.meaning_model.specs.Values.{Integer, Unset}
-use Rattle.meaning_model.specs.Pures.{Known, TwoNumbers, Compares, Selects}
-use Rattle.meaning_model.specs.Calling.{Bare}
-use Rattle.meaning_model.specs.Forms.{Form, Computes, Branch, BranchOn, Call, Return, If, For, While, Switch, Execute, Yield, Condition, Unknown}
-use Rattle.meaning_model.specs.Codes.{Ops, OpsEnd, Op, BlocksEnd, Block, Regions, RegionsEnd, Region, Function}
-use Rattle.meaning_model.specs.Worlds.{More, Undefined, Outside, ExternalCall}
+use Rattle.operation_model.specs.Values.{Integer, Unset}
+use Rattle.operation_model.specs.Pures.{Known, TwoNumbers, Compares, Selects}
+use Rattle.operation_model.specs.Calling.{Bare}
+use Rattle.operation_model.specs.Forms.{Form, Computes, Branch, BranchOn, Call, Return, If, For, While, Switch, Execute, Yield, Condition, Unknown}
+use Rattle.form_model.specs.Codes.{Ops, OpsEnd, Op, BlocksEnd, Block, Regions, RegionsEnd, Region, Function}
+use Rattle.machine_model.specs.Worlds.{More, Undefined, Outside, ExternalCall}
 use Rattle.meaning_model.specs.Buffers.{Heap, no_heap, ask_heap}
 use Rattle.meaning_model.specs.Cells.{no_cells, ask_cells}
 use Rattle.meaning_model.specs.Meaning.{End, Done, Stops, Result, structured, stepped}

@@ -2,12 +2,12 @@
 use Rattle.std.proofs.Common.{◌≡◌, ℕ, List, [], ◌∷◌, None, Some, refl}
 use Rattle.std.specs.Prelude.{ℤ, pos, negsuc, codes}
 use Rattle.number_model.specs.Numbers.{wrapped}
-use Rattle.meaning_model.specs.Values.{Integer}
-use Rattle.meaning_model.specs.Pures.{Known, PutsPart, TakesSize, MovesPointer}
-use Rattle.meaning_model.specs.Calling.{Together}
-use Rattle.meaning_model.specs.Forms.{Layout, Computes, Call, Return, Load, Store, Allocate, AllocateAligned, Free, NewMemref, EndMemref, LoadElement, StoreElement}
-use Rattle.meaning_model.specs.Codes.{Ops, OpsEnd, Block, BlocksEnd, Function}
-use Rattle.meaning_model.specs.Worlds.{Undefined, NoRoom}
+use Rattle.operation_model.specs.Values.{Integer}
+use Rattle.operation_model.specs.Pures.{Known, PutsPart, TakesSize, MovesPointer}
+use Rattle.operation_model.specs.Calling.{Together}
+use Rattle.operation_model.specs.Forms.{Layout, Computes, Call, Return, Load, Store, Allocate, AllocateAligned, Free, NewMemref, EndMemref, LoadElement, StoreElement}
+use Rattle.form_model.specs.Codes.{Ops, OpsEnd, Block, BlocksEnd, Function}
+use Rattle.machine_model.specs.Worlds.{Undefined, NoRoom}
 use Rattle.meaning_model.specs.Buffers.{needed}
 use Rattle.meaning_model.specs.Meaning.{Done, Stops, need_of}
 use Rattle.meaning_model.proofs.Examples.{op, function, returns, by_s, s_end, machine_end, l_end}

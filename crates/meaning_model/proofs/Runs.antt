@@ -1,20 +1,33 @@
 -- Laws of whole runs over the two memories.
-use Rattle.std.proofs.Common.{inl, inr, ℕ, ◌≤◌, List, [], ◌∷◌, Bool, true, false, Option, Some, None, refl, sym, ap, subst, arith}
+use Rattle.std.proofs.Common.{◌≡◌, inl, inr, ℕ, ◌≤◌, List, [], ◌∷◌, Bool, true, false, Option, Some, None, refl, sym, ap, subst, arith}
 use Rattle.std.specs.Prelude.{◌%◌, ◌^◌, ◌==◌, nat_lt, ◌&&◌, ℤ, if◌then◌else◌}
 use Rattle.number_model.specs.Answers.{Answer, Gives}
 use Rattle.number_model.specs.Answers.{Answer as answer}
-use Rattle.meaning_model.specs.Values.{Integer, Place}
-use Rattle.meaning_model.specs.Doings.{Question, Load, Store, Allocate, Free}
-use Rattle.meaning_model.specs.Codes.{Function}
-use Rattle.meaning_model.specs.Worlds.{Stop, Undefined, NoRoom, Reply, Answers, Refuses}
-use Rattle.meaning_model.specs.Machine.{Outcome, Finish, Returned, Stopped, at_top, exec}
+use Rattle.operation_model.specs.Values.{Integer, Place}
+use Rattle.operation_model.specs.Doings.{Question, Load, Store, Allocate, Free}
+use Rattle.form_model.specs.Codes.{Function}
+use Rattle.machine_model.specs.Worlds.{Stop, Undefined, NoRoom, Reply, Answers, Refuses}
+use Rattle.machine_model.specs.Machine.{Outcome, Finish, Returned, Stopped, at_top, exec}
 use Rattle.meaning_model.specs.Buffers.{Heap, Buffer, no_heap, ask_heap, holds, bytes_from, put_bytes, loaded, load_from, with_bytes, changed, store_to, ended, free_at, buffer_at}
-use Rattle.meaning_model.specs.Straight.{byte_size}
+use Rattle.operation_model.specs.Straight.{byte_size}
 use Rattle.meaning_model.specs.Cells.{Cells, no_cells, ask_cells}
 use Rattle.meaning_model.specs.Meaning.{End, Done, Stops, Entry, entry_of, from_entry, result_of, results, end_of, finished, first_world, structured, stepped}
-use Rattle.meaning_model.specs.Promises.{IsContinued, MoreFuel, IsContinuedCells, MoreFuelCells, AlwaysRoom}
-use Rattle.meaning_model.proofs.Forms.{same_forms}
-use Rattle.meaning_model.proofs.Fuel as fuel_laws
+use Rattle.meaning_model.specs.Promises.{SameForms, IsContinued, MoreFuel, IsContinuedCells, MoreFuelCells, AlwaysRoom}
+use Rattle.machine_model.proofs.Forms.{same_outcome}
+use Rattle.machine_model.specs.Structured.{runs, outcome_of}
+use Rattle.machine_model.proofs.Fuel as fuel_laws
+
+-- The two forms
+
+pub same_forms : SameForms
+same_forms fs name args answers fuel = go (entry_of fs name args)
+  where
+    go : (e : Answer Entry)
+        → from_entry e no_heap (λ x. result_of x (outcome_of (runs ask_heap fs x.spot.ops x.spot.blocks x.spot.env fuel (first_world no_heap answers))))
+        ≡ from_entry e no_heap (λ x. result_of x (exec ask_heap fs fuel (at_top x.spot) [] (first_world no_heap answers)))
+    go (Gives x) = ap (result_of x) (same_outcome ask_heap fs x.spot fuel (first_world no_heap answers))
+    go answer.Undefined = refl
+    go answer.Outside = refl
 
 -- Buffers
 

@@ -1,10 +1,10 @@
 -- The memory of the structured meaning: buffers, each a finite map from places to bytes, and the memory that they need.
 use Rattle.std.specs.Prelude.{ℕ, zero, suc, ◌+◌, ◌*◌, ◌/◌, ◌%◌, ◌^◌, ◌==◌, nat_lt, nat_le, max, Bool, true, false, ◌&&◌, List, [], ◌∷◌, ◌++◌, length, Option, Some, None, if◌then◌else◌}
 use Rattle.std.specs.Int.{div_ceil}
-use Rattle.meaning_model.specs.Values.{Integer, Pointer, Place}
-use Rattle.meaning_model.specs.Doings.{Question, Load, Store, Allocate, Free}
-use Rattle.meaning_model.specs.Straight.{byte_size}
-use Rattle.meaning_model.specs.Worlds.{Undefined, Reply, Answers, Refuses, Memory}
+use Rattle.operation_model.specs.Values.{Integer, Pointer, Place}
+use Rattle.operation_model.specs.Doings.{Question, Load, Store, Allocate, Free}
+use Rattle.operation_model.specs.Straight.{byte_size}
+use Rattle.machine_model.specs.Worlds.{Undefined, Reply, Answers, Refuses, Memory}
 
 -- Bytes
 

@@ -1,10 +1,10 @@
 -- The memory of the llvm meaning: numbered cells, each unset or a byte. A pointer is the number of a cell: its buffer is always 0.
 use Rattle.std.specs.Prelude.{ℕ, ◌+◌, ◌*◌, ◌^◌, ◌%◌, ◌==◌, nat_le, Bool, true, false, ◌&&◌, List, [], ◌∷◌, Option, Some, None, if◌then◌else◌}
 use Rattle.std.specs.Int.{div_ceil}
-use Rattle.meaning_model.specs.Values.{Pointer}
-use Rattle.meaning_model.specs.Doings.{Question, Load, Store, Allocate, Free}
-use Rattle.meaning_model.specs.Straight.{byte_size}
-use Rattle.meaning_model.specs.Worlds.{Undefined, NoRoom, Reply, Answers, Refuses, Memory}
+use Rattle.operation_model.specs.Values.{Pointer}
+use Rattle.operation_model.specs.Doings.{Question, Load, Store, Allocate, Free}
+use Rattle.operation_model.specs.Straight.{byte_size}
+use Rattle.machine_model.specs.Worlds.{Undefined, NoRoom, Reply, Answers, Refuses, Memory}
 use Rattle.meaning_model.specs.Buffers.{Bytes, bytes_from, put_bytes, loaded, positive_multiple}
 
 -- an allocation: its first cell, its number of cells, and whether it is live

@@ -4,16 +4,16 @@ use Rattle.tree_model.specs.declared.op_tree.ModuleTree.{ModuleTree}
 use Rattle.number_model.specs.Numbers.{wrapped, fits_signed, fits_unsigned}
 use Rattle.number_model.specs.Answers.{Answer, Gives, and_then, with_answer, present}
 use Rattle.number_model.specs.Answers.{Answer as answer}
-use Rattle.meaning_model.specs.Values.{Value, Integer, numbers}
-use Rattle.meaning_model.specs.Doings.{Question}
-use Rattle.meaning_model.specs.Calling.{unpacked}
-use Rattle.meaning_model.specs.Codes.{Blocks, BlocksEnd, Block, Function, find_function}
-use Rattle.meaning_model.specs.Worlds.{Stop, Undefined, Outside, Reply, ExternalCall, World, all_signed}
-use Rattle.meaning_model.specs.Machine.{Spot, begins, at_top, Outcome, Finish, Returned, Stopped, exec}
-use Rattle.meaning_model.specs.Structured.{runs, outcome_of}
+use Rattle.operation_model.specs.Values.{Value, Integer, numbers}
+use Rattle.operation_model.specs.Doings.{Question}
+use Rattle.operation_model.specs.Calling.{unpacked}
+use Rattle.form_model.specs.Codes.{Blocks, BlocksEnd, Block, Function, find_function}
+use Rattle.machine_model.specs.Worlds.{Stop, Undefined, Outside, Reply, ExternalCall, World, all_signed}
+use Rattle.machine_model.specs.Machine.{Spot, begins, at_top, Outcome, Finish, Returned, Stopped, exec}
+use Rattle.machine_model.specs.Structured.{runs, outcome_of}
 use Rattle.meaning_model.specs.Buffers.{Heap, no_heap, ask_heap}
 use Rattle.meaning_model.specs.Cells.{Cells, no_cells, ask_cells}
-use Rattle.meaning_model.specs.Decoding.{functions_of}
+use Rattle.form_model.specs.Decoding.{functions_of}
 
 -- how a run of a whole function ends: with its results as signed numbers, or before it does
 pub data End : Type 0 where

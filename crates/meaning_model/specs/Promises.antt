@@ -1,7 +1,7 @@
 -- Laws of the definitions.
-use Rattle.std.specs.Prelude.{◌≡◌, ◌⊎◌, ℕ, ◌≤◌, List, ◌++◌, ℤ}
-use Rattle.meaning_model.specs.Codes.{Function}
-use Rattle.meaning_model.specs.Worlds.{More, NoRoom, ExternalCall}
+use Rattle.std.specs.Prelude.{◌≡◌, ◌⊎◌, ℕ, ◌≤◌, List, ℤ}
+use Rattle.form_model.specs.Codes.{Function}
+use Rattle.machine_model.specs.Worlds.{More, NoRoom, IsPrefix}
 use Rattle.meaning_model.specs.Buffers.{Heap, no_heap, ask_heap}
 use Rattle.meaning_model.specs.Cells.{Cells, no_cells, ask_cells}
 use Rattle.meaning_model.specs.Meaning.{Result, Stops, structured, stepped, need_of}
@@ -10,11 +10,6 @@ use Rattle.meaning_model.specs.Meaning.{Result, Stops, structured, stepped, need
 -- the same need, with the same fuel.
 abbrev pub SameForms : Type 0
 SameForms = (fs : List Function) (name : List ℕ) (args answers : List ℤ) (fuel : ℕ) → structured fs name args answers fuel ≡ stepped ask_heap no_heap fs name args answers fuel
-
--- the second trace begins with the first
-pub record IsPrefix (xs ys : List ExternalCall) : Type 0 where
-  pub rest : List ExternalCall
-  pub is : ys ≡ xs ++ rest
 
 -- A run with more fuel is the same run, or the one with less fuel wanted more; then its trace begins with the shorter run's, and it needs
 -- no less memory. So a run that has ended stays as it is, whatever fuel it gets.

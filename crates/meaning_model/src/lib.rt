@@ -1,6 +1,4 @@
-//! What operations mean: values, memory, the machine that steps over operations, and the meaning of whole modules.
-//!
-//! A crate of definitions with their laws.
+//! The meanings of a module: S over buffers, L over numbered cells. A crate of definitions with their laws.
 #![tactic(auto)]
 
 mod laws;

@@ -1,6 +1,6 @@
 -- What each kind of value of the code stands for.
 use Rattle.std.proofs.Common.{◌≡◌, ℕ, List, map, refl, ap, ◌∙◌}
-use Rattle.meaning_model.specs.Values as model
+use Rattle.operation_model.specs.Values as model
 use Rattle.value_code.specs.declared.value.Value.{Value, out-Value, map-Value, fold_out-Value}
 use Rattle.value_code.specs.declared.value.Value as value
 use Rattle.value_code.specs.declared.value.Value.TheVariants as parts

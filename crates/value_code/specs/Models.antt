@@ -2,7 +2,7 @@
 use Rattle.std.specs.Prelude.{ℕ, List, map}
 use Rattle.number_model.specs.Answers.{Answer, with_answer}
 use Rattle.number_model.specs.Answers.{Answer as answer}
-use Rattle.meaning_model.specs.Values as model
+use Rattle.operation_model.specs.Values as model
 use Rattle.value_code.specs.declared.value.Value.{Value}
 use Rattle.value_code.specs.declared.value.Value.TheOpen.{Value-F}
 use Rattle.value_code.specs.declared.value.Value.TheFolds.{fold-Value}

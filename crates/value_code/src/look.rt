@@ -1,7 +1,7 @@
 //! Looking at values.
 
 ghost use Rattle.std.specs.Prelude.{◌≡◌};
-ghost use Rattle.meaning_model.specs.Values as model;
+ghost use Rattle.operation_model.specs.Values as model;
 ghost use Rattle.value_code.specs.Models.{looked_of, place_looked_of, value_of};
 
 use crate::value::{Place, Value};
@@ -32,7 +32,10 @@ pub fn place_of(v: &Value) -> Looked<Place>
     ensures { place_looked_of result ≡ model.place_of (value_of v.now) }
 {
     match v {
-        Value::Pointer(buffer, offset) => Looked::Gives(Place { buffer: *buffer, offset: *offset }),
+        Value::Pointer(buffer, offset) => Looked::Gives(Place {
+            buffer: *buffer,
+            offset: *offset,
+        }),
         Value::Unset => Looked::Undefined,
         Value::Integer(_) | Value::Aggregate(_) => Looked::Outside,
     }

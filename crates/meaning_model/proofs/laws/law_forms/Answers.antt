@@ -1,4 +1,4 @@
-use Rattle.meaning_model.proofs.Forms.{same_forms}
+use Rattle.meaning_model.proofs.Runs.{same_forms}
 use Rattle.meaning_model.proofs.laws.law_forms.Goals as goal
 
 pub returns : goal.returns

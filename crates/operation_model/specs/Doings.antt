@@ -2,7 +2,7 @@
 use Rattle.std.specs.Prelude.{ℕ, List}
 use Rattle.number_model.specs.Answers.{Answer, Gives}
 use Rattle.number_model.specs.Answers.{Answer as answer}
-use Rattle.meaning_model.specs.Values.{Value, Place}
+use Rattle.operation_model.specs.Values.{Value, Place}
 
 -- what an operation asks of the memory
 pub data Question : Type 0 where

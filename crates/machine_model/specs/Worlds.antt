@@ -1,8 +1,8 @@
 -- Memories, and what the outside tells and is told.
-use Rattle.std.specs.Prelude.{ℕ, List, [], ◌∷◌, ◌++◌, ℤ}
+use Rattle.std.specs.Prelude.{◌≡◌, ℕ, List, [], ◌∷◌, ◌++◌, ℤ}
 use Rattle.number_model.specs.Numbers.{signed, wrapped}
-use Rattle.meaning_model.specs.Values.{Value}
-use Rattle.meaning_model.specs.Doings.{Question}
+use Rattle.operation_model.specs.Values.{Value}
+use Rattle.operation_model.specs.Doings.{Question}
 
 -- why a run stops before its function returns: no fuel is left, it is undefined, it is outside of what has a meaning, or memory is short
 pub data Stop : Type 0 where
@@ -52,3 +52,8 @@ all_signed _ _ = []
 -- the world behind an external call
 abbrev pub told : {State : Type 0} → List ℕ → List ℕ → ExternalCall → World State → World State
 told inputs outputs call w = record { memory = w.memory; answers = unanswered outputs w.answers; trace = w.trace ++ call ∷ [] }
+
+-- the second trace begins with the first
+pub record IsPrefix (xs ys : List ExternalCall) : Type 0 where
+  pub rest : List ExternalCall
+  pub is : ys ≡ xs ++ rest

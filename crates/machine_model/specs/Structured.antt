@@ -2,15 +2,15 @@
 use Rattle.std.specs.Prelude.{ℕ, zero, suc, ◌+◌, ◌*◌, Bool, true, false, List, [], ◌∷◌}
 use Rattle.number_model.specs.Answers.{Answer, Gives, present}
 use Rattle.number_model.specs.Answers.{Answer as answer}
-use Rattle.meaning_model.specs.Values.{Value, Integer, number}
-use Rattle.meaning_model.specs.Pures.{truth}
-use Rattle.meaning_model.specs.Doings.{Doing, Question}
-use Rattle.meaning_model.specs.Forms.{Form, If, For, While, Switch, Execute, Yield, Condition}
-use Rattle.meaning_model.specs.Straight.{does}
-use Rattle.meaning_model.specs.Codes.{Ops, OpsEnd, Op, Blocks, BlocksEnd, Block, Regions, region_at, Target, entry, Function, find_function, Env, lookups, bind}
-use Rattle.meaning_model.specs.Worlds.{Stop, More, Undefined, Outside, Reply, World}
-use Rattle.meaning_model.specs.Machine.{Spot, Behind, Counting, Looping, Step, Goes, Calls, Returns, Stops, performs, has_round, next_number, counts, case_of, first_if, begins, external, Outcome, with_memory}
-use Rattle.meaning_model.specs.Machine.{Finish as finish}
+use Rattle.operation_model.specs.Values.{Value, Integer, number}
+use Rattle.operation_model.specs.Pures.{truth}
+use Rattle.operation_model.specs.Doings.{Doing, Question}
+use Rattle.operation_model.specs.Forms.{Form, If, For, While, Switch, Execute, Yield, Condition}
+use Rattle.operation_model.specs.Straight.{does}
+use Rattle.form_model.specs.Codes.{Ops, OpsEnd, Op, Blocks, BlocksEnd, Block, Regions, region_at, Target, entry, Function, find_function, Env, lookups, bind}
+use Rattle.machine_model.specs.Worlds.{Stop, More, Undefined, Outside, Reply, World}
+use Rattle.machine_model.specs.Machine.{Spot, Behind, Counting, Looping, Step, Goes, Calls, Returns, Stops, performs, has_round, next_number, counts, case_of, first_if, begins, external, Outcome, with_memory}
+use Rattle.machine_model.specs.Machine.{Finish as finish}
 
 -- What is run: the operations ahead in a block of these blocks; a counting loop at its test, at a number and with the values that it
 -- carries; or a loop with a condition, with the values that it carries.

@@ -7,7 +7,7 @@ use Rattle.tree_model.specs.declared.type_tree.TypeTree.{TypeTree, out-TypeTree}
 use Rattle.tree_model.specs.declared.type_tree.TypeTree as type
 use Rattle.tree_model.specs.declared.type_tree.TypeTree.TheOpen.{TypeTree-F}
 use Rattle.tree_model.specs.declared.type_tree.TypeTree.TheFolds.{fold-TypeTree}
-use Rattle.meaning_model.specs.Values.{Value, Unset, together}
+use Rattle.operation_model.specs.Values.{Value, Unset, together}
 
 abbrev pub width_at : ℕ → TypeTree-F TypeTree → Option ℕ
 width_at bits (TypeTree-F.Int width) = Some width

@@ -3,13 +3,13 @@ use Rattle.std.specs.Prelude.{ℕ, ◌+◌, ◌*◌, ◌%◌, ◌^◌, ◌-◌, 
 use Rattle.std.specs.List.{list_any}
 use Rattle.number_model.specs.Numbers.{unsigned}
 use Rattle.number_model.specs.Answers.{Answer, Gives, Outside, and_then, with_answer, undefined_if}
-use Rattle.meaning_model.specs.Values.{Value, Integer, place_of, number, part_at, allocated_path, descriptor}
-use Rattle.meaning_model.specs.Pures.{gives, truth, element_place}
-use Rattle.meaning_model.specs.Doings.{Doing, Ends, Asks, Calls, Jumps, Returns, on}
-use Rattle.meaning_model.specs.Doings.{Doing as doing}
-use Rattle.meaning_model.specs.Doings.{Question as question}
-use Rattle.meaning_model.specs.Calling.{spread, packed, unpacked}
-use Rattle.meaning_model.specs.Forms.{Form, Layout, Computes, Branch, BranchOn, Call, Return, Load, Store, Allocate, AllocateAligned, Free, NewMemref, EndMemref, LoadElement, StoreElement}
+use Rattle.operation_model.specs.Values.{Value, Integer, place_of, number, part_at, allocated_path, descriptor}
+use Rattle.operation_model.specs.Pures.{gives, truth, element_place}
+use Rattle.operation_model.specs.Doings.{Doing, Ends, Asks, Calls, Jumps, Returns, on}
+use Rattle.operation_model.specs.Doings.{Doing as doing}
+use Rattle.operation_model.specs.Doings.{Question as question}
+use Rattle.operation_model.specs.Calling.{spread, packed, unpacked}
+use Rattle.operation_model.specs.Forms.{Form, Layout, Computes, Branch, BranchOn, Call, Return, Load, Store, Allocate, AllocateAligned, Free, NewMemref, EndMemref, LoadElement, StoreElement}
 
 -- the number of bytes of an integer of this width: the least of 1, 2, 4 and 8 that holds it
 abbrev pub byte_size : ℕ → ℕ

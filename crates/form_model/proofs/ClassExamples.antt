@@ -9,13 +9,13 @@ use Rattle.tree_model.specs.declared.attr_tree.AttrTree.{AttrTree}
 use Rattle.tree_model.specs.declared.attr_tree.AttrTree as attr
 use Rattle.tree_model.specs.declared.attr_tree.AttrTree.TheVariants as parts
 use Rattle.number_model.specs.Arithmetic.{no_flags, Add, Multiply, Divide, DivideDown, Below, AboveUnsigned, ExtendSigned, Truncate, Keep}
-use Rattle.meaning_model.specs.Values.{Integer, Unset, together}
-use Rattle.meaning_model.specs.Pures.{Known, TwoNumbers, Compares, Resizes, Moves, TakesPart, MovesPointer, HasSizes, TakesSize}
-use Rattle.meaning_model.specs.Calling.{Bare, Together}
-use Rattle.meaning_model.specs.Types.{same_type, same_at}
-use Rattle.meaning_model.specs.Forms.{Form, Computes, Branch, BranchOn, Call, Return, Load, Store, Allocate, AllocateAligned, Free, NewMemref, LoadElement, StoreElement, For, Switch, Unknown}
-use Rattle.meaning_model.specs.Properties.{Entries}
-use Rattle.meaning_model.specs.Classes.{form_of}
+use Rattle.operation_model.specs.Values.{Integer, Unset, together}
+use Rattle.operation_model.specs.Pures.{Known, TwoNumbers, Compares, Resizes, Moves, TakesPart, MovesPointer, HasSizes, TakesSize}
+use Rattle.operation_model.specs.Calling.{Bare, Together}
+use Rattle.form_model.specs.Types.{same_type, same_at}
+use Rattle.operation_model.specs.Forms.{Form, Computes, Branch, BranchOn, Call, Return, Load, Store, Allocate, AllocateAligned, Free, NewMemref, LoadElement, StoreElement, For, Switch, Unknown}
+use Rattle.form_model.specs.Properties.{Entries}
+use Rattle.form_model.specs.Classes.{form_of}
 
 abbrev of : List ℕ → ℕ → Entries → List TypeTree → List TypeTree → Form
 of name bits props operands results = form_of name (record { bits = bits; props = props; operands = operands; results = results })

@@ -4,7 +4,7 @@ use Rattle.std.specs.Ordering.{int_eq}
 use Rattle.number_model.specs.Numbers.{unsigned, signed, wrapped}
 use Rattle.number_model.specs.Answers.{Answer, Gives, Outside, and_then, with_answer, undefined_if}
 use Rattle.number_model.specs.Arithmetic.{Binary, binary, Comparison, compares, Resize, resize, bit}
-use Rattle.meaning_model.specs.Values.{Value, Integer, Pointer, Place, number, place_of, part_at, with_part, size_path, stride_path, offset_path, aligned_path}
+use Rattle.operation_model.specs.Values.{Value, Integer, Pointer, Place, number, place_of, part_at, with_part, size_path, stride_path, offset_path, aligned_path}
 
 pub data Pure : Type 0 where
   -- a value that is known beforehand

@@ -5,13 +5,13 @@ use Rattle.std.specs.Str.{bytes_eq}
 use Rattle.tree_model.specs.declared.type_tree.TypeTree.{TypeTree}
 use Rattle.number_model.specs.Numbers.{unsigned, wrapped}
 use Rattle.number_model.specs.Arithmetic.{Flags, no_flags, Binary, Add, Subtract, Multiply, ShiftLeft, Divide, DivideUnsigned, Remainder, RemainderUnsigned, DivideUp, DivideDown, DivideUpUnsigned, And, Or, Xor, ShiftRight, ShiftRightUnsigned, Greater, GreaterUnsigned, Less, LessUnsigned, Resize, ExtendSigned, Extend, Truncate, Keep}
-use Rattle.meaning_model.specs.Values.{Integer}
-use Rattle.meaning_model.specs.Pures.{Pure, Known, TwoNumbers, Compares, Resizes, Selects, Moves, TakesPart, PutsPart, MovesPointer, HasSizes, TakesSize}
-use Rattle.meaning_model.specs.Calling.{Bare, packing_of}
-use Rattle.meaning_model.specs.Straight.{byte_size}
-use Rattle.meaning_model.specs.Types.{width_of, Memref, memref_of, shape_of, unset_of, become_same}
-use Rattle.meaning_model.specs.Properties.{Entries, if_some, integer_of, numbers_of, symbol_of, type_of, flags_of, position_of, counts_of, comparison_of, alignment_of}
-use Rattle.meaning_model.specs.Forms.{Form, Computes, Branch, BranchOn, Call, Return, Load, Store, Allocate, AllocateAligned, Free, NewMemref, EndMemref, LoadElement, StoreElement, If, For, While, Switch, Execute, Yield, Condition, Unknown}
+use Rattle.operation_model.specs.Values.{Integer}
+use Rattle.operation_model.specs.Pures.{Pure, Known, TwoNumbers, Compares, Resizes, Selects, Moves, TakesPart, PutsPart, MovesPointer, HasSizes, TakesSize}
+use Rattle.operation_model.specs.Calling.{Bare, packing_of}
+use Rattle.operation_model.specs.Straight.{byte_size}
+use Rattle.form_model.specs.Types.{width_of, Memref, memref_of, shape_of, unset_of, become_same}
+use Rattle.form_model.specs.Properties.{Entries, if_some, integer_of, numbers_of, symbol_of, type_of, flags_of, position_of, counts_of, comparison_of, alignment_of}
+use Rattle.operation_model.specs.Forms.{Form, Computes, Branch, BranchOn, Call, Return, Load, Store, Allocate, AllocateAligned, Free, NewMemref, EndMemref, LoadElement, StoreElement, If, For, While, Switch, Execute, Yield, Condition, Unknown}
 
 -- what a form is told by: the width of `index`, the properties, and the types of operands and results
 pub record Seen : Type 0 where

@@ -3,15 +3,15 @@ use Rattle.std.specs.Prelude.{ℕ, zero, suc, ◌+◌, ◌==◌, Bool, true, fal
 use Rattle.number_model.specs.Numbers.{unsigned, signed, wrapped, fits_signed}
 use Rattle.number_model.specs.Answers.{Answer, Gives, and_then, undefined_if, present}
 use Rattle.number_model.specs.Answers.{Answer as answer}
-use Rattle.meaning_model.specs.Values.{Value, Integer, number, numbers}
-use Rattle.meaning_model.specs.Pures.{truth}
-use Rattle.meaning_model.specs.Doings.{Doing, Ends, Asks, Jumps, Question}
-use Rattle.meaning_model.specs.Doings.{Doing as doing}
-use Rattle.meaning_model.specs.Calling.{packed, gathered}
-use Rattle.meaning_model.specs.Forms.{Form, If, For, While, Switch, Execute, Yield, Condition}
-use Rattle.meaning_model.specs.Straight.{does}
-use Rattle.meaning_model.specs.Codes.{Ops, OpsEnd, Op, Blocks, BlocksEnd, Block, Regions, region_at, Target, entry, find_block, Function, find_function, Env, lookups, bind}
-use Rattle.meaning_model.specs.Worlds.{Stop, More, Undefined, Outside, Reply, Answers, Refuses, World, answered, all_signed, told}
+use Rattle.operation_model.specs.Values.{Value, Integer, number, numbers}
+use Rattle.operation_model.specs.Pures.{truth}
+use Rattle.operation_model.specs.Doings.{Doing, Ends, Asks, Jumps, Question}
+use Rattle.operation_model.specs.Doings.{Doing as doing}
+use Rattle.operation_model.specs.Calling.{packed, gathered}
+use Rattle.operation_model.specs.Forms.{Form, If, For, While, Switch, Execute, Yield, Condition}
+use Rattle.operation_model.specs.Straight.{does}
+use Rattle.form_model.specs.Codes.{Ops, OpsEnd, Op, Blocks, BlocksEnd, Block, Regions, region_at, Target, entry, find_block, Function, find_function, Env, lookups, bind}
+use Rattle.machine_model.specs.Worlds.{Stop, More, Undefined, Outside, Reply, Answers, Refuses, World, answered, all_signed, told}
 
 -- Places
 

@@ -9,11 +9,11 @@ use Rattle.tree_model.specs.declared.op_tree.BlockTree.TheOpen.{OpTree-F, BlockT
 use Rattle.tree_model.specs.declared.op_tree.BlockTree.TheFolds.{fold-OpTree}
 use Rattle.tree_model.specs.declared.op_tree.FuncTree.{FuncTree}
 use Rattle.tree_model.specs.declared.op_tree.ModuleTree.{ModuleTree}
-use Rattle.meaning_model.specs.Calling.{Packing, Bare, Together, packing_of}
-use Rattle.meaning_model.specs.Types.{widths_of, shape_of}
-use Rattle.meaning_model.specs.Properties.{Entries, if_some, type_of, text_of}
-use Rattle.meaning_model.specs.Classes.{form_of}
-use Rattle.meaning_model.specs.Codes.{Ops, OpsEnd, Op, Blocks, BlocksEnd, Block, Regions, RegionsEnd, Region, Face, Function}
+use Rattle.operation_model.specs.Calling.{Packing, Bare, Together, packing_of}
+use Rattle.form_model.specs.Types.{widths_of, shape_of}
+use Rattle.form_model.specs.Properties.{Entries, if_some, type_of, text_of}
+use Rattle.form_model.specs.Classes.{form_of}
+use Rattle.form_model.specs.Codes.{Ops, OpsEnd, Op, Blocks, BlocksEnd, Block, Regions, RegionsEnd, Region, Face, Function}
 
 -- Types of values
 

@@ -1,7 +1,7 @@
 -- The forms of operations: operations of two dialects that mean the same have one form.
 use Rattle.std.specs.Prelude.{ℕ, List, Option, ℤ}
-use Rattle.meaning_model.specs.Pures.{Pure}
-use Rattle.meaning_model.specs.Calling.{Shapes, Packing}
+use Rattle.operation_model.specs.Pures.{Pure}
+use Rattle.operation_model.specs.Calling.{Shapes, Packing}
 
 -- a new memref: the width of its sizes, its sizes where they are fixed, the width of its elements and its alignment, 1 where none is asked for
 pub record Layout : Type 0 where

@@ -2,19 +2,16 @@
 use Rattle.std.proofs.Common.{◌≡◌, ℕ, zero, suc, ◌+◌, ◌*◌, ◌<◌, ◌≤◌, List, [], ◌∷◌, Bool, true, false, refl, sym, ap, ◌∙◌, arith}
 use Rattle.number_model.specs.Answers.{Answer, Gives, present}
 use Rattle.number_model.specs.Answers.{Answer as answer}
-use Rattle.meaning_model.specs.Values.{Value, Integer, number}
-use Rattle.meaning_model.specs.Pures.{truth}
-use Rattle.meaning_model.specs.Doings.{Doing, Question}
-use Rattle.meaning_model.specs.Forms.{Form, If, For, While, Switch, Execute, Yield, Condition}
-use Rattle.meaning_model.specs.Straight.{does}
-use Rattle.meaning_model.specs.Codes.{Ops, OpsEnd, Op, Blocks, BlocksEnd, Block, Regions, region_at, Target, entry, Function, find_function, Env, lookups, bind}
-use Rattle.meaning_model.specs.Worlds.{Stop, Reply, World}
-use Rattle.meaning_model.specs.Machine.{Spot, Behind, Counting, Looping, Frame, Once, Body, Before, After, Place, Step, Goes, Calls, Returns, Stops, within, stepping, performs, enters, leaves, has_round, tested, turns, next_number, counts, case_of, enters_once, yields, decided, decides, first_if, acts, Caller, Outcome, with_memory, stopped, ending, settles, resumes, external, begins, at_top, calls_body, gives_back, follows, exec}
-use Rattle.meaning_model.specs.Structured.{Code, Ahead, Round, Again, Ran, Yields, Decides, Returned, Stopped, Runs, taking, on_yield, on_condition, on_return, into, behind, once, round, test, again, while, settle, resume, call, follow, means, ahead, deep, runs, outcome_of}
-use Rattle.meaning_model.specs.Buffers.{no_heap, ask_heap}
-use Rattle.meaning_model.specs.Meaning.{Entry, entry_of, from_entry, result_of, first_world}
-use Rattle.meaning_model.specs.Promises.{SameForms}
-use Rattle.meaning_model.proofs.Spending.{Spends, into_spends, deep_spends}
+use Rattle.operation_model.specs.Values.{Value, Integer, number}
+use Rattle.operation_model.specs.Pures.{truth}
+use Rattle.operation_model.specs.Doings.{Doing, Question}
+use Rattle.operation_model.specs.Forms.{Form, If, For, While, Switch, Execute, Yield, Condition}
+use Rattle.operation_model.specs.Straight.{does}
+use Rattle.form_model.specs.Codes.{Ops, OpsEnd, Op, Blocks, BlocksEnd, Block, Regions, region_at, Target, entry, Function, find_function, Env, lookups, bind}
+use Rattle.machine_model.specs.Worlds.{Stop, Reply, World}
+use Rattle.machine_model.specs.Machine.{Spot, Behind, Counting, Looping, Frame, Once, Body, Before, After, Place, Step, Goes, Calls, Returns, Stops, within, stepping, performs, enters, leaves, has_round, tested, turns, next_number, counts, case_of, enters_once, yields, decided, decides, first_if, acts, Caller, Outcome, with_memory, stopped, ending, settles, resumes, external, begins, at_top, calls_body, gives_back, follows, exec}
+use Rattle.machine_model.specs.Structured.{Code, Ahead, Round, Again, Ran, Yields, Decides, Returned, Stopped, Runs, taking, on_yield, on_condition, on_return, into, behind, once, round, test, again, while, settle, resume, call, follow, means, ahead, deep, runs, outcome_of}
+use Rattle.machine_model.proofs.Spending.{Spends, into_spends, deep_spends}
 
 module _ {State : Type 0} (ask : Question → State → Reply State) (fs : List Function) where
   -- what a step comes to with so much fuel
@@ -218,13 +215,3 @@ module _ {State : Type 0} (ask : Question → State → Reply State) (fs : List 
 
   pub same_outcome : (s : Spot) (n : ℕ) (w : World State) → outcome_of (runs ask fs s.ops s.blocks s.env n w) ≡ exec ask fs n (at_top s) [] w
   same_outcome s n w = sym (whole (runs ask fs s.ops s.blocks s.env n w)) ∙ (joins (2 * n + 1)).ahead_is s.ops s.blocks s.env n w [] [] (omega arith)
-
-pub same_forms : SameForms
-same_forms fs name args answers fuel = go (entry_of fs name args)
-  where
-    go : (e : Answer Entry)
-        → from_entry e no_heap (λ x. result_of x (outcome_of (runs ask_heap fs x.spot.ops x.spot.blocks x.spot.env fuel (first_world no_heap answers))))
-        ≡ from_entry e no_heap (λ x. result_of x (exec ask_heap fs fuel (at_top x.spot) [] (first_world no_heap answers)))
-    go (Gives x) = ap (result_of x) (same_outcome ask_heap fs x.spot fuel (first_world no_heap answers))
-    go answer.Undefined = refl
-    go answer.Outside = refl

@@ -12,14 +12,14 @@ use Rattle.tree_model.specs.declared.op_tree.RegionTree.{RegionTree, roll-Region
 use Rattle.tree_model.specs.declared.op_tree.BlockTree.TheOpen.{OpTree-F, BlockTree-F, RegionTree-F}
 use Rattle.tree_model.specs.declared.op_tree.BlockTree.TheFolds.{fold-BlockTree, fold-RegionTree}
 use Rattle.number_model.specs.Arithmetic.{no_flags, Add}
-use Rattle.meaning_model.specs.Values.{Integer}
-use Rattle.meaning_model.specs.Pures.{Known, TwoNumbers}
-use Rattle.meaning_model.specs.Calling.{Bare}
-use Rattle.meaning_model.specs.Forms.{Computes, Return}
-use Rattle.meaning_model.specs.Codes.{Ops, OpsEnd, Op, Blocks, BlocksEnd, Block, Regions, RegionsEnd, Region}
-use Rattle.meaning_model.specs.Properties.{Entries}
-use Rattle.meaning_model.specs.Classes.{form_of}
-use Rattle.meaning_model.specs.Decoding.{Values, code_of, block_code, region_code, op_code, in_front}
+use Rattle.operation_model.specs.Values.{Integer}
+use Rattle.operation_model.specs.Pures.{Known, TwoNumbers}
+use Rattle.operation_model.specs.Calling.{Bare}
+use Rattle.operation_model.specs.Forms.{Computes, Return}
+use Rattle.form_model.specs.Codes.{Ops, OpsEnd, Op, Blocks, BlocksEnd, Block, Regions, RegionsEnd, Region}
+use Rattle.form_model.specs.Properties.{Entries}
+use Rattle.form_model.specs.Classes.{form_of}
+use Rattle.form_model.specs.Decoding.{Values, code_of, block_code, region_code, op_code, in_front}
 
 abbrev block_of : ℕ → Values → BlockTree → Blocks → Blocks
 block_of bits values = fold-BlockTree (Blocks → Blocks) (Ops → Ops) (Regions → Regions) block_code (op_code bits values) region_code

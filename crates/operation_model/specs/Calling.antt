@@ -1,7 +1,7 @@
 -- How values are handed over at calls and returns.
 use Rattle.std.specs.Prelude.{ℕ, zero, suc, ◌+◌, ◌*◌, nat_le, nat_lt, List, [], ◌∷◌, ◌++◌, length, take, drop, Option, Some, None, if◌then◌else◌}
 use Rattle.number_model.specs.Answers.{Answer, Gives, Outside, and_then, with_answer}
-use Rattle.meaning_model.specs.Values.{Value, inside, together, parts_at, field_paths}
+use Rattle.operation_model.specs.Values.{Value, inside, together, parts_at, field_paths}
 
 -- what a function returns is one value or none: several results stand together as a struct
 pub data Packing : Type 0 where

@@ -3,16 +3,15 @@ use Rattle.std.proofs.Common.{◌≡◌, ◌⊎◌, inl, inr, ℕ, zero, suc, �
 use Rattle.std.specs.Prelude.{length, ◌==◌, if◌then◌else◌}
 use Rattle.number_model.specs.Answers.{Answer, Gives, and_then, present}
 use Rattle.number_model.specs.Answers.{Answer as answer}
-use Rattle.meaning_model.specs.Values.{Value, Integer, number, numbers}
-use Rattle.meaning_model.specs.Pures.{truth}
-use Rattle.meaning_model.specs.Doings.{Doing, Ends, Asks, Jumps, Question}
-use Rattle.meaning_model.specs.Doings.{Doing as doing}
-use Rattle.meaning_model.specs.Forms.{Form, If, For, While, Switch, Execute, Yield, Condition}
-use Rattle.meaning_model.specs.Straight.{does}
-use Rattle.meaning_model.specs.Codes.{Ops, OpsEnd, Op, Blocks, BlocksEnd, Block, Regions, region_at, Target, entry, find_block, Function, find_function, Env, lookups, bind}
-use Rattle.meaning_model.specs.Worlds.{Stop, More, Undefined, Outside, Reply, Answers, Refuses, ExternalCall, World}
-use Rattle.meaning_model.specs.Machine.{Spot, Behind, Counting, Looping, Frame, Once, Body, Before, After, Place, Step, Goes, Calls, Returns, Stops, within, stepping, on_reply, performs, enters, leaves, has_round, tested, turns, next_number, counts, case_of, enters_once, yields, decided, decides, first_if, acts, step_at, step, Caller, Outcome, Finish, Returned, Stopped, with_memory, stopped, ending, Next, settles, resumes, external, tells, Told, begins, at_top, calls_body, gives_back, follows, exec}
-use Rattle.meaning_model.specs.Promises.{IsPrefix}
+use Rattle.operation_model.specs.Values.{Value, Integer, number, numbers}
+use Rattle.operation_model.specs.Pures.{truth}
+use Rattle.operation_model.specs.Doings.{Doing, Ends, Asks, Jumps, Question}
+use Rattle.operation_model.specs.Doings.{Doing as doing}
+use Rattle.operation_model.specs.Forms.{Form, If, For, While, Switch, Execute, Yield, Condition}
+use Rattle.operation_model.specs.Straight.{does}
+use Rattle.form_model.specs.Codes.{Ops, OpsEnd, Op, Blocks, BlocksEnd, Block, Regions, region_at, Target, entry, find_block, Function, find_function, Env, lookups, bind}
+use Rattle.machine_model.specs.Worlds.{IsPrefix, Stop, More, Undefined, Outside, Reply, Answers, Refuses, ExternalCall, World}
+use Rattle.machine_model.specs.Machine.{Spot, Behind, Counting, Looping, Frame, Once, Body, Before, After, Place, Step, Goes, Calls, Returns, Stops, within, stepping, on_reply, performs, enters, leaves, has_round, tested, turns, next_number, counts, case_of, enters_once, yields, decided, decides, first_if, acts, step_at, step, Caller, Outcome, Finish, Returned, Stopped, with_memory, stopped, ending, Next, settles, resumes, external, tells, Told, begins, at_top, calls_body, gives_back, follows, exec}
 
 prefix_refl : (xs : List ExternalCall) → IsPrefix xs xs
 prefix_refl xs = record { rest = []; is = sym (append-nil xs) }

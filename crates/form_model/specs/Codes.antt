@@ -1,9 +1,9 @@
 -- Functions as a run sees them: each operation by its form, each value by its number.
 use Rattle.std.specs.Prelude.{ℕ, zero, suc, ◌==◌, List, [], ◌∷◌, Option, Some, None, if◌then◌else◌}
 use Rattle.std.specs.Str.{bytes_eq}
-use Rattle.meaning_model.specs.Values.{Value}
-use Rattle.meaning_model.specs.Calling.{Shapes, Packing}
-use Rattle.meaning_model.specs.Forms.{Form}
+use Rattle.operation_model.specs.Values.{Value}
+use Rattle.operation_model.specs.Calling.{Shapes, Packing}
+use Rattle.operation_model.specs.Forms.{Form}
 
 mutual
   -- operations in order: form, results, operands, labels of successors and regions of the first, and those behind it
