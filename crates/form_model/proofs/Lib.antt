@@ -1,0 +1,2 @@
+pub mod ClassExamples
+pub mod DecodingExamples

@@ -1,0 +1,4 @@
+pub mod Examples
+pub mod Spending
+pub mod Forms
+pub mod Fuel

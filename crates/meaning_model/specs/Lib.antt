@@ -1,0 +1,4 @@
+pub mod Buffers
+pub mod Cells
+pub mod Meaning
+pub mod Promises

@@ -1,0 +1,37 @@
+-- What the values of the code stand for.
+use Rattle.std.specs.Prelude.{ℕ, List, map}
+use Rattle.number_model.specs.Answers.{Answer, with_answer}
+use Rattle.number_model.specs.Answers.{Answer as answer}
+use Rattle.operation_model.specs.Values as model
+use Rattle.value_code.specs.declared.value.Value.{Value}
+use Rattle.value_code.specs.declared.value.Value.TheOpen.{Value-F}
+use Rattle.value_code.specs.declared.value.Value.TheFolds.{fold-Value}
+use Rattle.value_code.specs.declared.value.Place.{Place}
+use Rattle.value_code.specs.declared.look.Looked.{Looked}
+use Rattle.value_code.specs.declared.look.Looked.TheVariants as looked
+
+abbrev pub value_at : Value-F model.Value → model.Value
+value_at (Value-F.Integer n) = model.Integer n
+value_at (Value-F.Pointer buffer offset) = model.Pointer buffer offset
+value_at Value-F.Unset = model.Unset
+value_at (Value-F.Aggregate parts) = model.together parts
+
+unfoldable pub value_of : Value → model.Value
+value_of = fold-Value model.Value value_at
+
+abbrev pub values_of : List Value → List model.Value
+values_of vs = map value_of vs
+
+abbrev pub answer_of : {T A : Type 0} → (T → A) → Looked T → Answer A
+answer_of f (looked.Gives t) = answer.Gives (f t)
+answer_of f looked.Undefined = answer.Undefined
+answer_of f looked.Outside = answer.Outside
+
+abbrev pub looked_of : Looked ℕ → Answer ℕ
+looked_of l = answer_of (λ n. n) l
+
+abbrev pub place_of : Place → model.Place
+place_of p = record { buffer = p.buffer; offset = p.offset }
+
+abbrev pub place_looked_of : Looked Place → Answer model.Place
+place_looked_of l = answer_of place_of l

@@ -1,0 +1,8 @@
+//! Values and the operations that only compute, in code, as `meaning_model` says them.
+#![tactic(auto)]
+
+mod look;
+mod value;
+
+pub use look::{Looked, number, place_of};
+pub use value::{Place, Value, ValueList, copy_value, copy_values};
