@@ -7,9 +7,7 @@ use crate::roll::roll;
 use crate::roll_attr::roll_attr;
 use crate::roll_type::roll_type;
 use std::alloc::Global;
-use tree_model::{
-    AttrTree, Bytes, NoMemory, TypeTree, copy_attr, copy_type, same_attr, same_type,
-};
+use tree_model::{AttrTree, Bytes, NoMemory, TypeTree, copy_attr, copy_type, same_attr, same_type};
 use tree_text::{put_attr, put_type};
 
 /// A type or an attribute.

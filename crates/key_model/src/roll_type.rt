@@ -75,7 +75,7 @@ fn roll_results(out: &mut u32, inside: bool, results: &[TypeTree])
     if let [only] = results {
         if !is_function(only) {
             roll_type(out, inside, only);
-        return;
+            return;
         }
     }
     roll_types(out, inside, results);

@@ -1,5 +1,4 @@
-use Rattle.std.proofs.Common.{◌≡◌, ◌++◌, take, map}
-use Rattle.std.specs.Prelude.{codes, flat_map}
+use Rattle.std.proofs.Common.{◌≡◌, take}
 use Rattle.key_model.specs.Rolled.{rolled}
 use Rattle.key_model.proofs.roll.roll.Given as goal
 

@@ -1,5 +1,5 @@
-use Rattle.std.proofs.Common.{◌≡◌, ◌++◌, take, map}
-use Rattle.std.specs.Prelude.{codes, flat_map}
+use Rattle.std.proofs.Common.{◌≡◌, take, map}
+use Rattle.std.specs.Prelude.{codes}
 use Rattle.key_model.specs.Rolled.{rolled}
 use Rattle.std.specs.Fmt.{signed_decimal}
 use Rattle.tree_text.specs.Joined.{led_by}

@@ -1,5 +1,5 @@
-use Rattle.std.proofs.Common.{◌≡◌, ◌++◌, take, map}
-use Rattle.std.specs.Prelude.{codes, flat_map}
+use Rattle.std.proofs.Common.{◌≡◌, take}
+use Rattle.std.specs.Prelude.{flat_map}
 use Rattle.key_model.specs.Rolled.{rolled}
 use Rattle.tree_text.specs.NameText.{byte_text}
 use Rattle.key_model.proofs.roll_name.roll_string_bytes.Given as goal

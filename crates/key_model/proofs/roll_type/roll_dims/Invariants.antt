@@ -1,5 +1,5 @@
-use Rattle.std.proofs.Common.{◌≡◌, ◌++◌, take, map}
-use Rattle.std.specs.Prelude.{codes, flat_map}
+use Rattle.std.proofs.Common.{◌≡◌, take}
+use Rattle.std.specs.Prelude.{flat_map}
 use Rattle.key_model.specs.Rolled.{rolled}
 use Rattle.tree_text.specs.TypeText.{dim_text}
 use Rattle.key_model.proofs.roll_type.roll_dims.Given as goal
