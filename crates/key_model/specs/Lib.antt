@@ -1,0 +1,10 @@
+pub mod Rolled
+pub mod Keys
+pub mod Alike
+pub mod Digest
+pub mod Equal
+pub mod Parts
+pub mod Build
+pub mod Stands
+pub mod StandsLaws
+pub mod BuildLaws
