@@ -8,7 +8,7 @@ use Rattle.pipeline_text.specs.declared.pass.PassName.TheVariants.{ConvertScfToC
 use Rattle.pipeline_text.specs.declared.pass.PassName.{PassName}
 use Rattle.pipeline_text.specs.declared.pass.Anchor.TheVariants.{FuncFunc}
 use Rattle.pipeline_text.specs.declared.pass.PassUse.{PassUse}
-use Rattle.pipeline_text.specs.Grammar.{whole, each}
+use Rattle.pipeline_text.specs.declared.pass.Stage.TheVariants.{Whole, Each}
 use Rattle.conversion_model.specs.Chosen.{Ranked, depth, order}
 use Rattle.conversion_model.specs.Conversion.{Supply}
 use Rattle.pattern_model.specs.PassTable.{full_target, patterns_with}
@@ -34,7 +34,7 @@ module_of funcs = record { props = []; attrs = []; funcs = funcs }
 
 -- The function b has an operation without a row: it stays as it is, and names it as operation 1, with no pattern. The others
 -- are converted, and the stage behind isn't run.
-b_fails : folded_stages new (each FuncFunc (used ConvertArithToLlvm ∷ []) ∷ whole (used ConvertFuncToLlvm) ∷ [])
+b_fails : folded_stages new (Each FuncFunc (used ConvertArithToLlvm ∷ []) ∷ Whole (used ConvertFuncToLlvm) ∷ [])
       (module_of (in_func (codes "a") (codes "arith.addi") ∷ in_func (codes "b") (codes "arith.ceildivsi") ∷ in_func (codes "c") (codes "arith.subi") ∷ []))
     ≡ record {
       module_behind = module_of (in_func (codes "a") (codes "llvm.add") ∷ in_func (codes "b") (codes "arith.ceildivsi") ∷ in_func (codes "c") (codes "llvm.sub") ∷ []);
@@ -43,7 +43,7 @@ b_fails : folded_stages new (each FuncFunc (used ConvertArithToLlvm ∷ []) ∷ 
 b_fails = refl
 
 -- a pass that stands as a stage leaves all functions as they are where one fails
-whole_fails : folded_stages new (whole (used FullConvertToLlvm) ∷ []) (module_of (in_func (codes "a") (codes "arith.addi") ∷ in_func (codes "b") (codes "foo.bar") ∷ []))
+whole_fails : folded_stages new (Whole (used FullConvertToLlvm) ∷ []) (module_of (in_func (codes "a") (codes "arith.addi") ∷ in_func (codes "b") (codes "foo.bar") ∷ []))
     ≡ record {
       module_behind = module_of (in_func (codes "a") (codes "arith.addi") ∷ in_func (codes "b") (codes "foo.bar") ∷ []);
       failures = record { function = 1; position = 0; pass = FullConvertToLlvm; number = 1; name = codes "foo.bar"; patterns = 0 } ∷ [];
@@ -51,7 +51,7 @@ whole_fails : folded_stages new (whole (used FullConvertToLlvm) ∷ []) (module_
 whole_fails = refl
 
 -- within a nested list a function is as before the pass that failed, which is the second
-second_fails : folded_stages new (each FuncFunc (used ArithExpand ∷ used ConvertScfToCf ∷ used ConvertCfToLlvm ∷ used ConvertArithToLlvm ∷ []) ∷ [])
+second_fails : folded_stages new (Each FuncFunc (used ArithExpand ∷ used ConvertScfToCf ∷ used ConvertCfToLlvm ∷ used ConvertArithToLlvm ∷ []) ∷ [])
       (module_of (func (codes "f") (Index ∷ []) [] (one_block 0 ((0, Index) ∷ []) (plain (codes "arith.addi") ((1, Index) ∷ []) (0 ∷ 0 ∷ []) [] ∷ plain (codes "arith.maxsi") ((2, Index) ∷ []) (0 ∷ []) [] ∷ ends (codes "func.return") [] [] [] ∷ [])) ∷ []))
     ≡ record {
       module_behind = module_of (func (codes "f") (Index ∷ []) [] (one_block 0 ((0, Index) ∷ []) (plain (codes "arith.addi") ((1, Index) ∷ []) (0 ∷ 0 ∷ []) [] ∷ plain (codes "arith.maxsi") ((2, Index) ∷ []) (0 ∷ []) [] ∷ ends (codes "func.return") [] [] [] ∷ [])) ∷ []);
@@ -77,7 +77,7 @@ depths : map (depth full_target all_sets) (codes "llvm.add" ∷ codes "arith.add
 depths = refl
 
 -- the first pass with the option gives the width; 64 where there is none
-widths : width (whole (record { pass = ArithExpand; bits = 64 }) ∷ each FuncFunc (record { pass = ConvertCfToLlvm; bits = 32 } ∷ []) ∷ []) ∷ width (whole (record { pass = ArithExpand; bits = 32 }) ∷ []) ∷ []
+widths : width (Whole (record { pass = ArithExpand; bits = 64 }) ∷ Each FuncFunc (record { pass = ConvertCfToLlvm; bits = 32 } ∷ []) ∷ []) ∷ width (Whole (record { pass = ArithExpand; bits = 32 }) ∷ []) ∷ []
     ≡ 32 ∷ 64 ∷ []
 widths = refl
 

@@ -7,7 +7,8 @@ use Rattle.pipeline_text.specs.declared.pass.Anchor.{Anchor}
 use Rattle.pipeline_text.specs.declared.pass.Anchor.TheVariants.{FuncFunc, LlvmFunc}
 use Rattle.pipeline_text.specs.declared.pass.Pipeline.{Pipeline}
 use Rattle.pipeline_text.specs.Passes.{has_width}
-use Rattle.pipeline_text.specs.Grammar.{Item, whole, each, item_of}
+use Rattle.pipeline_text.specs.declared.pass.Stage.{Stage}
+use Rattle.pipeline_text.specs.declared.pass.Stage.TheVariants.{Whole, Each}
 use Rattle.plain_tree.specs.Ops.{Op, PlainModule}
 use Rattle.conversion_model.specs.Targets.{name_of}
 use Rattle.conversion_model.specs.Conversion.{Supply, Unlegalised}
@@ -36,11 +37,11 @@ abbrev pub uses_width : List PassUse → Option ℕ
 uses_width [] = None
 uses_width (u ∷ us) = if has_width u.pass then Some u.bits else uses_width us
 
-abbrev pub stage_width : Item → Option ℕ
-stage_width (whole u) = uses_width (u ∷ [])
-stage_width (each anchor uses) = uses_width uses
+abbrev pub stage_width : Stage → Option ℕ
+stage_width (Whole u) = uses_width (u ∷ [])
+stage_width (Each anchor uses) = uses_width uses
 
-abbrev pub stages_width : List Item → Option ℕ
+abbrev pub stages_width : List Stage → Option ℕ
 stages_width [] = None
 stages_width (s ∷ ss) = or_width (stage_width s) (stages_width ss)
 
@@ -48,7 +49,7 @@ abbrev pub bits_or_64 : Option ℕ → ℕ
 bits_or_64 None = 64
 bits_or_64 (Some bits) = bits
 
-abbrev pub width : List Item → ℕ
+abbrev pub width : List Stage → ℕ
 width stages = bits_or_64 (stages_width stages)
 
 -- One function
@@ -101,9 +102,9 @@ is_empty (x ∷ xs) = false
 abbrev pub whole_of : PassName → List Op → Stood → Stood
 whole_of pass before s = if is_empty s.failures then record { funcs = module_step pass s.funcs; failures = [] } else record { funcs = before; failures = s.failures }
 
-abbrev pub stage_run : (ℕ → ℕ → Supply) → ℕ → Item → List Op → Stood
-stage_run new bits (whole u) funcs = whole_of u.pass funcs (functions_run new bits (λ f. true) (u ∷ []) 0 funcs)
-stage_run new bits (each anchor uses) funcs = functions_run new bits (λ f. bytes_eq (name_of f) (anchor_name anchor)) uses 0 funcs
+abbrev pub stage_run : (ℕ → ℕ → Supply) → ℕ → Stage → List Op → Stood
+stage_run new bits (Whole u) funcs = whole_of u.pass funcs (functions_run new bits (λ f. true) (u ∷ []) 0 funcs)
+stage_run new bits (Each anchor uses) funcs = functions_run new bits (λ f. bytes_eq (name_of f) (anchor_name anchor)) uses 0 funcs
 
 -- Stages
 
@@ -112,7 +113,7 @@ abbrev pub stage_then : Stood → (List Op → Stood) → Stood
 stage_then s next = if is_empty s.failures then next s.funcs else s
 
 -- stages from the n-th on, up to the first with a failure; `new` has the new numbers of each stage, function and pass
-abbrev pub stages_run : (ℕ → ℕ → ℕ → Supply) → ℕ → ℕ → List Item → List Op → Stood
+abbrev pub stages_run : (ℕ → ℕ → ℕ → Supply) → ℕ → ℕ → List Stage → List Op → Stood
 stages_run new bits n [] funcs = record { funcs = funcs; failures = [] }
 stages_run new bits n (s ∷ ss) funcs = stage_then (stage_run (new n) bits s funcs) (stages_run new bits (n + 1) ss)
 
@@ -121,13 +122,13 @@ pub record Folded : Type 0 where
   pub module_behind : PlainModule
   pub failures : List Failure
 
-abbrev pub folded_stages : (ℕ → ℕ → ℕ → Supply) → List Item → PlainModule → Folded
+abbrev pub folded_stages : (ℕ → ℕ → ℕ → Supply) → List Stage → PlainModule → Folded
 folded_stages new stages m =
     let s : Stood = stages_run new (width stages) 0 stages m.funcs in
     record { module_behind = record { props = m.props; attrs = m.attrs; funcs = s.funcs }; failures = s.failures }
 
 abbrev pub folded : (ℕ → ℕ → ℕ → Supply) → Pipeline → PlainModule → Folded
-folded new p m = folded_stages new (map item_of p.stages.items) m
+folded new p m = folded_stages new p.stages m
 
 -- a pipeline fails where a function fails
 abbrev pub is_success : Folded → Bool
