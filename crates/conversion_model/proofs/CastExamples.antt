@@ -43,8 +43,8 @@ dbl_converts = refl
 twice : Template
 twice = record {
   steps =
-    record { name = codes "t.sum"; props = []; sources = Operand 1 ∷ Operand 0 ∷ []; successors = []; makes = Int 64 ∷ [] }
-    ∷ record { name = codes "t.sum"; props = []; sources = Made 0 ∷ Operand 1 ∷ []; successors = []; makes = Int 64 ∷ Int 64 ∷ [] } ∷ [];
+      record { name = codes "t.sum"; props = []; sources = Operand 1 ∷ Operand 0 ∷ []; successors = []; makes = Int 64 ∷ [] }
+      ∷ record { name = codes "t.sum"; props = []; sources = Made 0 ∷ Operand 1 ∷ []; successors = []; makes = Int 64 ∷ Int 64 ∷ [] } ∷ [];
   results = Made 2 ∷ Operand 0 ∷ [];
 }
 
@@ -63,10 +63,10 @@ two_indices = record { name = codes "t.add"; operands = Index ∷ Index ∷ []; 
 -- every type changes: a cast for each operand in front, one for each result behind; the second result is the first operand
 two_products : chosen 64 (says ((codes "t.sum", Legal) ∷ [])) (twice_pattern true ∷ []) [] two_indices ≡ Some (record {
   steps =
-    cast (Operand 0) (Int 64) ∷ cast (Operand 1) (Int 64)
-    ∷ sum (Made 1 ∷ Made 0 ∷ []) (Int 64 ∷ [])
-    ∷ sum (Made 2 ∷ Made 1 ∷ []) (Int 64 ∷ Int 64 ∷ [])
-    ∷ cast (Made 4) Index ∷ cast (Made 0) Index ∷ [];
+      cast (Operand 0) (Int 64) ∷ cast (Operand 1) (Int 64)
+      ∷ sum (Made 1 ∷ Made 0 ∷ []) (Int 64 ∷ [])
+      ∷ sum (Made 2 ∷ Made 1 ∷ []) (Int 64 ∷ Int 64 ∷ [])
+      ∷ cast (Made 4) Index ∷ cast (Made 0) Index ∷ [];
   results = Made 5 ∷ Made 6 ∷ [];
 })
 unfolding twice_pattern twice

@@ -93,4 +93,4 @@ pub supplies_agree : (p : Pass) (bits : ℕ) (new other : Supply) (f : Op) → T
     → RenAnswer (SameValue new other) (SameLabel new other) (conv p bits new f) (conv p bits other f)
 supplies_agree p bits new other f all here there =
     conversion_renames (SameValue new other) (SameLabel new other) p bits new other f f (values_one new other f here there) (labels_one new other f here there) all (new_ones new other)
-      (old_function new other f here there)
+    (old_function new other f here there)

@@ -156,9 +156,9 @@ pub unused_end : (room : ℕ) (f : Op) → is_cast f ≡ false → op_size f ≤
 unused_end zero f root small = not_empty f small
 unused_end (suc room) f root small =
     by_unused room f (has_unused f) refl (λ is.
-      unused_end room (op_without (is_unused_cast (operations f)) f) (cast_without (is_unused_cast (operations f)) f ∙ root) (omega (arith, small, unused_fewer f root is)))
+    unused_end room (op_without (is_unused_cast (operations f)) f) (cast_without (is_unused_cast (operations f)) f ∙ root) (omega (arith, small, unused_fewer f root is)))
 
 pub no_unused_cast : NoUnusedCast
 no_unused_cast f root =
     unused_end (length (operations f)) (pairs_left_out (length (operations f)) f) (pairs_root (length (operations f)) f root)
-      (omega (arith, listed_size f, pairs_no_more (length (operations f)) f))
+    (omega (arith, listed_size f, pairs_no_more (length (operations f)) f))

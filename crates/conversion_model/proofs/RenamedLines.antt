@@ -66,10 +66,10 @@ copies_ren {R = R} {L = L} {os = os} {ps = ps} {xs = xs} {ys = ys} f g one new u
     let value : R (number_of f os s) (number_of g ps s) = number_ren f g new uses s in
     let behind : RenList R L (copies f os rs sources xs) (copies g ps ss sources ys) = copies_ren f g one new uses rest sources more in
     either_way (RenList R L) (number_of f os s == a) (number_of g ps s == b)
-      (copies f os rs sources xs) (copy (a, t) (number_of f os s) ∷ copies f os rs sources xs)
-      (copies g ps ss sources ys) (copy (b, t) (number_of g ps s) ∷ copies g ps ss sources ys)
-      (one (number_of f os s) (number_of g ps s) a b value r) behind
-      (list_more (ren_op (more_values r none_values) (more_all value none_all) regions_ended none_all) behind)
+    (copies f os rs sources xs) (copy (a, t) (number_of f os s) ∷ copies f os rs sources xs)
+    (copies g ps ss sources ys) (copy (b, t) (number_of g ps s) ∷ copies g ps ss sources ys)
+    (one (number_of f os s) (number_of g ps s) a b value r) behind
+    (list_more (ren_op (more_values r none_values) (more_all value none_all) regions_ended none_all) behind)
 
 pub steps_ren : {R L : ℕ → ℕ → Type 0} {os ps ls ms : List ℕ} {xs ys : List Op} (f g : ℕ → ℕ) → ((k : ℕ) → R (f k) (g k)) → RenAll R os ps → RenAll L ls ms → (n : ℕ) (steps : List Step)
     → RenList R L xs ys → RenList R L (steps_written f os ls n steps xs) (steps_written g ps ms n steps ys)

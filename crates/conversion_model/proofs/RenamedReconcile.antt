@@ -45,9 +45,9 @@ both_same a b c d e f p q r = ap (λ x. x && (c && not e)) p ∙ ap (λ x. b && 
 undoes_same : {R : ℕ → ℕ → Type 0} (c c' d d' : Cast) → OneToOne R → RenCast R c c' → RenCast R d d' → undoes c d ≡ undoes c' d'
 undoes_same c c' d d' one r s =
     both_same (d.result == c.operand) (d'.result == c'.operand) (same_type d.from c.to) (same_type d'.from c'.to) (d.operand == c.result) (d'.operand == c'.result)
-      (one d.result d'.result c.operand c'.operand s.result r.operand)
-      (ap (λ t. same_type t c.to) s.from ∙ ap (λ t. same_type d'.from t) r.to)
-      (one d.operand d'.operand c.result c'.result s.operand r.result)
+    (one d.result d'.result c.operand c'.operand s.result r.operand)
+    (ap (λ t. same_type t c.to) s.from ∙ ap (λ t. same_type d'.from t) r.to)
+    (one d.operand d'.operand c.result c'.result s.operand r.result)
 
 pub data RenMaybe (R : ℕ → ℕ → Type 0) : Option ℕ → Option ℕ → Type 0 where
   no_value : RenMaybe R None None
@@ -137,11 +137,11 @@ unused_ren zero one r = r
 unused_ren (suc room) {f = f} {g = g} one r =
     let all = operations_ren r in
     unused_by (list_any (λ o. is_unused_cast (operations f) o.1) (operations f)) (list_any (λ o. is_unused_cast (operations g) o.1) (operations g))
-      (any_same (is_unused_cast (operations f)) (is_unused_cast (operations g)) (unused_same one all) all) r
-      (unused_ren room one (op_without_ren (is_unused_cast (operations f)) (is_unused_cast (operations g)) (unused_same one all) r))
+    (any_same (is_unused_cast (operations f)) (is_unused_cast (operations g)) (unused_same one all) all) r
+    (unused_ren room one (op_without_ren (is_unused_cast (operations f)) (is_unused_cast (operations g)) (unused_same one all) r))
 
 -- functions that go together go together when they are reconciled
 pub reconciled_ren : {R L : ℕ → ℕ → Type 0} {f g : Op} → OneToOne R → RenOp R L f g → RenOp R L (reconciled f) (reconciled g)
 reconciled_ren {R = R} {L = L} {f = f} {g = g} one r =
     subst (λ n. RenOp R L (reconciled f) (unused_left_out n (pairs_left_out n g))) (listed_size f ∙ op_sizes r ∙ sym (listed_size g))
-      (unused_ren (length (operations f)) one (pairs_ren (length (operations f)) one r))
+    (unused_ren (length (operations f)) one (pairs_ren (length (operations f)) one r))

@@ -49,7 +49,7 @@ mutual
   ops_without_ren s t agree ops_ended = ops_ended
   ops_without_ren {R = R} {L = L} s t agree (ren_more {o = o} {p = p} {os = os} {ps = ps} r rest) =
       either_way (RenOps R L) (s o) (t p) (ops_without s os) (more_ops (op_without s o) (ops_without s os)) (ops_without t ps) (more_ops (op_without t p) (ops_without t ps)) (agree o p r)
-        (ops_without_ren s t agree rest) (ren_more (op_without_ren s t agree r) (ops_without_ren s t agree rest))
+      (ops_without_ren s t agree rest) (ren_more (op_without_ren s t agree r) (ops_without_ren s t agree rest))
 
   pub regions_without_ren : {R L : ℕ → ℕ → Type 0} {o p : Regions} (s t : Op → Bool) → TestsAgree R L s t → RenRegions R L o p → RenRegions R L (regions_without s o) (regions_without t p)
   regions_without_ren s t agree regions_ended = regions_ended
@@ -103,7 +103,7 @@ pub copies_ren : {R L : ℕ → ℕ → Type 0} {os ps : List (ℕ × Op)} → R
 copies_ren listed_ended = pairs_ended
 copies_ren {R = R} {L = L} (more_listed {o = o} {p = p} {os = os} {ps = ps} r rest) =
     either_way (RenPairs R) (is_copy o) (is_copy p) (pair_in o ++ copies_in os) (copies_in os) (pair_in p ++ copies_in ps) (copies_in ps) (ap (λ name. bytes_eq name copy_name) (name_same r))
-      (pair_joined r (copies_ren rest)) (copies_ren rest)
+    (pair_joined r (copies_ren rest)) (copies_ren rest)
 
 pub replaced_ren : {R : ℕ → ℕ → Type 0} {a b c d : ℕ} → OneToOne R → R a b → R c d → Along R (replaced a c) (replaced b d)
 replaced_ren {R = R} {a = a} {b = b} {c = c} {d = d} one from to m n r = either_way R (m == a) (n == b) c m d n (one m n a b r from) to r
@@ -112,7 +112,7 @@ pub followed_ren : {R : ℕ → ℕ → Type 0} {cs ds : List (ℕ × ℕ)} (f g
 followed_ren f g one pairs_ended along m n r = r
 followed_ren f g one (more_pairs {a = a} {b = b} {c = c} {d = d} from to rest) along m n r =
     followed_ren (λ v. replaced a (f c) (f v)) (λ v. replaced b (g d) (g v)) one rest
-      (λ i j s. replaced_ren one from (along c d to) (f i) (g j) (along i j s)) (replaced a (f c) m) (replaced b (g d) n) (replaced_ren one from (along c d to) m n r)
+    (λ i j s. replaced_ren one from (along c d to) (f i) (g j) (along i j s)) (replaced a (f c) m) (replaced b (g d) n) (replaced_ren one from (along c d to) m n r)
 
 pub left_out_ren : {R L : ℕ → ℕ → Type 0} {f g : Op} → OneToOne R → RenOp R L f g → RenOp R L (copies_left_out f) (copies_left_out g)
 left_out_ren one r =

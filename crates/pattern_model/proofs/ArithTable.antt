@@ -47,7 +47,6 @@ two_indices_32 = refl
 two_integers : table_at 32 (shape (Int 7 ∷ Int 7 ∷ []) (Int 7 ∷ []) props) arith_set ≡ two_operands (Int 7)
 two_integers = refl
 
-
 -- of one operand: what index_cast and index_castui become hangs on the two widths
 abbrev one_operand : PlainType → Option Template → Option Template → List (Option Template)
 one_operand t signed unsigned =

@@ -35,7 +35,7 @@ module_of funcs = record { props = []; attrs = []; funcs = funcs }
 -- The function b has an operation without a row: it stays as it is, and names it as operation 1, with no pattern. The others
 -- are converted, and the stage behind isn't run.
 b_fails : folded_stages new (each FuncFunc (used ConvertArithToLlvm ∷ []) ∷ whole (used ConvertFuncToLlvm) ∷ [])
-      (module_of (in_func (codes "a") (codes "arith.addi") ∷ in_func (codes "b") (codes "arith.ceildivsi") ∷ in_func (codes "c") (codes "arith.subi") ∷ []))
+    (module_of (in_func (codes "a") (codes "arith.addi") ∷ in_func (codes "b") (codes "arith.ceildivsi") ∷ in_func (codes "c") (codes "arith.subi") ∷ []))
     ≡ record {
       module_behind = module_of (in_func (codes "a") (codes "llvm.add") ∷ in_func (codes "b") (codes "arith.ceildivsi") ∷ in_func (codes "c") (codes "llvm.sub") ∷ []);
       failures = record { function = 1; position = 0; pass = ConvertArithToLlvm; number = 1; name = codes "arith.ceildivsi"; patterns = 0 } ∷ [];
@@ -52,7 +52,7 @@ whole_fails = refl
 
 -- within a nested list a function is as before the pass that failed, which is the second
 second_fails : folded_stages new (each FuncFunc (used ArithExpand ∷ used ConvertScfToCf ∷ used ConvertCfToLlvm ∷ used ConvertArithToLlvm ∷ []) ∷ [])
-      (module_of (func (codes "f") (Index ∷ []) [] (one_block 0 ((0, Index) ∷ []) (plain (codes "arith.addi") ((1, Index) ∷ []) (0 ∷ 0 ∷ []) [] ∷ plain (codes "arith.maxsi") ((2, Index) ∷ []) (0 ∷ []) [] ∷ ends (codes "func.return") [] [] [] ∷ [])) ∷ []))
+    (module_of (func (codes "f") (Index ∷ []) [] (one_block 0 ((0, Index) ∷ []) (plain (codes "arith.addi") ((1, Index) ∷ []) (0 ∷ 0 ∷ []) [] ∷ plain (codes "arith.maxsi") ((2, Index) ∷ []) (0 ∷ []) [] ∷ ends (codes "func.return") [] [] [] ∷ [])) ∷ []))
     ≡ record {
       module_behind = module_of (func (codes "f") (Index ∷ []) [] (one_block 0 ((0, Index) ∷ []) (plain (codes "arith.addi") ((1, Index) ∷ []) (0 ∷ 0 ∷ []) [] ∷ plain (codes "arith.maxsi") ((2, Index) ∷ []) (0 ∷ []) [] ∷ ends (codes "func.return") [] [] [] ∷ [])) ∷ []);
       failures = record { function = 0; position = 0; pass = ArithExpand; number = 2; name = codes "arith.maxsi"; patterns = 1 } ∷ [];
@@ -61,7 +61,7 @@ second_fails = refl
 
 -- patterns with a root count whether or not they are defined there
 counts : patterns_with FullConvertToLlvm (codes "memref.alloc") ∷ patterns_with FullConvertToLlvm (codes "builtin.unrealized_conversion_cast")
-      ∷ patterns_with ConvertFuncToLlvm (codes "builtin.unrealized_conversion_cast") ∷ patterns_with ReconcileUnrealizedCasts (codes "memref.alloc") ∷ []
+    ∷ patterns_with ConvertFuncToLlvm (codes "builtin.unrealized_conversion_cast") ∷ patterns_with ReconcileUnrealizedCasts (codes "memref.alloc") ∷ []
     ≡ 2 ∷ 1 ∷ 0 ∷ 0 ∷ []
 counts = refl
 

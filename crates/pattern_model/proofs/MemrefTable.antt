@@ -72,7 +72,7 @@ aligned_64 = refl
 
 aligned_32 : table_at 32 (shape (Index ∷ []) (buffer ∷ []) alignment) memref_set ≡ only_alloc None
     (steps_to (bytes (pos 1) (Int 32) ++ rounded (Int 32)
-      ++ widened (codes "llvm.zext") (Made 8) ∷ widened (codes "llvm.zext") (Made 12) ∷ call (codes "aligned_alloc") (Made 13 ∷ Made 14 ∷ []) ∷ described 15 (Int 32) (descriptor 32 3)) 26)
+    ++ widened (codes "llvm.zext") (Made 8) ∷ widened (codes "llvm.zext") (Made 12) ∷ call (codes "aligned_alloc") (Made 13 ∷ Made 14 ∷ []) ∷ described 15 (Int 32) (descriptor 32 3)) 26)
 aligned_32 = refl
 
 -- without dimensions the elements are o, and there are neither sizes nor strides

@@ -33,9 +33,46 @@ expand_renames : (bits : ℕ) → TableRenames bits expand_set
 expand_renames bits = (always, (always, (always, (always, (always, always)))))
 
 arith_renames : (bits : ℕ) → TableRenames bits arith_set
-arith_renames bits =
-    (always, (always, (always, (always, (always, (always, (always, (always, (always, (always, (always, (always, (always,
-    (always, (always, (always, (always, (always, (always, (always, (always, (always, (always, (always, (always, always)))))))))))))))))))))))))
+arith_renames bits = (
+  always,
+  (
+    always,
+    (
+      always,
+      (
+        always,
+        (
+          always,
+          (
+            always,
+            (
+              always,
+              (
+                always,
+                (
+                  always,
+                  (
+                    always,
+                    (
+                      always,
+                      (
+                        always,
+                        (
+                          always,
+                          (always, (always, (always, (always, (always, (always, (always, (always, (always, (always, (always, (always, always)))))))))))),
+                        ),
+                      ),
+                    ),
+                  ),
+                ),
+              ),
+            ),
+          ),
+        ),
+      ),
+    ),
+  ),
+)
 
 cf_renames : (bits : ℕ) → TableRenames bits cf_set
 cf_renames bits = (always, (always, (always, (always, always))))
@@ -52,10 +89,10 @@ all_func_renames bits = (always, (always, (always, (always, always))))
 all_renames : (bits : ℕ) → TableRenames bits all_sets
 all_renames bits =
     both_tables bits scf_set (expand_set ++ arith_set ++ cf_set ++ memref_set ++ func_set) (scf_renames bits)
-      (both_tables bits expand_set (arith_set ++ cf_set ++ memref_set ++ func_set) (expand_renames bits)
-        (both_tables bits arith_set (cf_set ++ memref_set ++ func_set) (arith_renames bits)
-          (both_tables bits cf_set (memref_set ++ func_set) (cf_renames bits)
-            (both_tables bits memref_set func_set (memref_renames bits) (all_func_renames bits)))))
+    (both_tables bits expand_set (arith_set ++ cf_set ++ memref_set ++ func_set) (expand_renames bits)
+    (both_tables bits arith_set (cf_set ++ memref_set ++ func_set) (arith_renames bits)
+    (both_tables bits cf_set (memref_set ++ func_set) (cf_renames bits)
+    (both_tables bits memref_set func_set (memref_renames bits) (all_func_renames bits)))))
 
 abbrev PassRenames : ℕ → Option Pass → Type 1
 PassRenames bits None = Anything

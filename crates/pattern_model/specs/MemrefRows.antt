@@ -175,7 +175,7 @@ place_of bits m k dims element next =
     offset_of bits m k 0 dims a λ b.
     widened (codes "llvm.sext") bits b λ s.
     value (codes "llvm.getelementptr") (p ∷ s ∷ [])
-      ((codes "elem_type", OfType (becomes bits element)) ∷ (codes "rawConstantIndices", Numbers 32 (negsuc 2147483647 ∷ [])) ∷ []) Ptr next
+    ((codes "elem_type", OfType (becomes bits element)) ∷ (codes "rawConstantIndices", Numbers 32 (negsuc 2147483647 ∷ [])) ∷ []) Ptr next
 
 abbrev pub load_by : ℕ → List PlainType → Option Template
 load_by bits (Memref dims element ∷ indices) = when (length indices == length dims) (draft (

@@ -44,8 +44,8 @@ declared name t funcs = if is_called name funcs && not (is_there name funcs) the
 abbrev pub allocators_declared : List Op → List Op
 allocators_declared funcs =
     declared (codes "aligned_alloc") (LlvmFunc Ptr (types_in (Int 64 ∷ Int 64 ∷ [])))
-      (declared (codes "free") (LlvmFunc Void (types_in (Ptr ∷ [])))
-        (declared (codes "malloc") (LlvmFunc Ptr (types_in (Int 64 ∷ []))) funcs))
+    (declared (codes "free") (LlvmFunc Void (types_in (Ptr ∷ [])))
+    (declared (codes "malloc") (LlvmFunc Ptr (types_in (Int 64 ∷ []))) funcs))
 
 -- of finalize-memref-to-llvm and full-convert-to-llvm; other passes have none
 abbrev pub module_step : PassName → List Op → List Op

@@ -167,7 +167,7 @@ abbrev pub tests : Numbers → (ℕ → PlainType) → ℕ → ℕ → List ℤ 
 tests new type_of index j (number ∷ []) (case ∷ []) default more = test_pieces new type_of index j number case.label default more
 tests new type_of index j (number ∷ numbers) (case ∷ cases) default more =
     test_pieces new type_of index j number case.label (new.label (j + 1))
-      (Opens (new.label (j + 1)) [] ∷ tests new type_of index (j + 1) numbers cases default more)
+    (Opens (new.label (j + 1)) [] ∷ tests new type_of index (j + 1) numbers cases default more)
 tests new type_of index j _ _ default more = more
 
 -- the blocks of the cases, in regions from the r-th on
@@ -182,7 +182,7 @@ head_pieces new type_of index numbers cases default more = tests new type_of ind
 abbrev pub switch_pieces : Numbers → (ℕ → PlainType) → Values → ℕ → List ℤ → Single → List Single → List Piece
 switch_pieces new type_of results index numbers default cases =
     head_pieces new type_of index numbers cases default.label
-      (case_pieces type_of (new.label 0) 1 cases (yields_to type_of (new.label 0) 0 default (Opens (new.label 0) results ∷ [])))
+    (case_pieces type_of (new.label 0) 1 cases (yields_to type_of (new.label 0) 0 default (Opens (new.label 0) results ∷ [])))
 
 abbrev pub switch_blocks : Numbers → (ℕ → PlainType) → Values → ℕ → List ℤ → Option (List Single) → Option (List Piece)
 switch_blocks new type_of results index numbers (Some (default ∷ cases)) =

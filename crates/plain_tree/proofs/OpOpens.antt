@@ -48,7 +48,7 @@ mutual
   pub op_again : (o : Op) → plain_op (op_tree o) ≡ o
   op_again (op k results operands regions successors) =
       plain-roll _ ∙ same_op k (plain_entries (entries_tree k.props)) (plain_entries (entries_tree k.attrs)) results (plain_values (values_tree results)) operands (regions_in (map plain_region (region_trees regions))) regions successors
-        (entries_again k.props) (entries_again k.attrs) (values_again results) (regions_again regions)
+      (entries_again k.props) (entries_again k.attrs) (values_again results) (regions_again regions)
 
   pub ops_again : (os : Ops) → ops_in (map plain_op (op_trees os)) ≡ os
   ops_again end_of_ops = refl
