@@ -1,16 +1,15 @@
 -- Casts round the products of patterns that convert types.
-use Rattle.std.specs.Prelude.{ℕ, ◌≡◌, refl, Bool, true, false, List, [], ◌∷◌, map, Option, Some, None, codes, Ok, Err}
+use Rattle.std.specs.Prelude.{ℕ, ◌≡◌, refl, Bool, true, false, List, [], ◌∷◌, Some, codes, Ok}
 use Rattle.plain_tree.specs.Types.{PlainType, Int, Index}
 use Rattle.conversion_model.specs.declared.templates.Source.{Source}
 use Rattle.conversion_model.specs.Templates.{Step, Template}
 use Rattle.conversion_model.specs.Chosen.{chosen}
 use Rattle.plain_tree.specs.Ops.{Op}
 use Rattle.conversion_model.specs.declared.templates.Source.TheVariants.{Operand, Made}
-use Rattle.conversion_model.specs.Targets.{Target, Shape, Legal, Illegal, Partial, Full}
+use Rattle.conversion_model.specs.Targets.{Shape, Legal, Illegal, Partial}
 use Rattle.conversion_model.specs.Rows.{Pattern, Straight}
-use Rattle.conversion_model.specs.Reconciled.{reconciled}
 use Rattle.conversion_model.specs.Conversion.{Pass, conv}
-use Rattle.conversion_model.proofs.TestSet.{shape_a, one_op, to_one, says, plain, func_of, counted_up}
+use Rattle.conversion_model.proofs.TestSet.{one_op, says, plain, func_of, counted_up}
 
 add_pattern : Pattern
 add_pattern = record { root = codes "t.add"; makes = codes "t.sum" ∷ []; benefit = 1; is_converted = true; row = λ bits. Straight (λ o. Some (one_op (codes "t.sum") (Operand 0 ∷ Operand 1 ∷ []) (Int bits))) }

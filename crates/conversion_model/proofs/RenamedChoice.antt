@@ -1,14 +1,14 @@
 -- Renaming: what replaces an operation.
-use Rattle.std.proofs.Common.{◌≡◌, ℕ, ◌+◌, ◌==◌, Bool, true, false, List, [], ◌∷◌, Option, Some, None, refl, sym, ap, ◌∙◌, subst, length, map}
+use Rattle.std.proofs.Common.{◌≡◌, ℕ, ◌+◌, Bool, true, false, List, [], ◌∷◌, Option, Some, None, refl, ap, ◌∙◌, subst, map}
 use Rattle.std.specs.Prelude.{◌&&◌, is_some, if◌then◌else◌}
 use Rattle.plain_tree.specs.Types.{PlainType}
-use Rattle.plain_tree.specs.Ops.{Kind, Op, op, Values, Regions, Blocks}
+use Rattle.plain_tree.specs.Ops.{Op}
 use Rattle.conversion_model.specs.Templates.{Template}
-use Rattle.conversion_model.specs.Targets.{Shape, Target, is_legal, name_of, shape_of, shape_with}
-use Rattle.conversion_model.specs.Rows.{Row, Straight, Cutting, Framing, Pattern, Numbers, Piece, Product, Opens, Held, Stands, Frame}
+use Rattle.conversion_model.specs.Targets.{Target, is_legal, name_of, shape_of, shape_with}
+use Rattle.conversion_model.specs.Rows.{Row, Straight, Cutting, Framing, Pattern, Numbers, Piece, Frame}
 use Rattle.conversion_model.specs.Chosen.{Leaves, Ranked, and_then, or_else, by_row, change_of, chosen, depth, goes_before, has_root, in_order, order, pattern_depth, put_in, ranked}
 use Rattle.conversion_model.specs.Choice.{Choice, Stays, Line, Cuts, Frames, all_legalised, choice, entry_leaves, first_arguments, first_choice, frame_shape, framed, row_choice}
-use Rattle.conversion_model.specs.Renamings.{RenAll, RenValues, none_values, RenOp, ren_op, RenRegions, regions_ended, ren_region, RenBlocks, blocks_ended, ren_block, RenPieces, pieces_ended, ren_product, ren_opens, ren_held, ren_stands, RenCut, no_cut, ren_cut, RenNumbers, RowRenames, TableRenames, Anything, always, OneToOne, TypesAgree}
+use Rattle.conversion_model.specs.Renamings.{RenOp, ren_op, regions_ended, ren_region, blocks_ended, ren_block, RenPieces, pieces_ended, ren_product, ren_opens, ren_held, ren_stands, RenCut, no_cut, ren_cut, RenNumbers, RowRenames, TableRenames, Anything, always, OneToOne, TypesAgree}
 use Rattle.conversion_model.proofs.RenamedTypes.{name_same, shape_same, shapes, value_types}
 
 pub data RenChoice (R L : ℕ → ℕ → Type 0) : Option Choice → Option Choice → Type 0 where

@@ -1,21 +1,21 @@
 -- Renaming: the conversion of a renamed function is the renamed conversion.
-use Rattle.std.proofs.Common.{◌≡◌, ℕ, ◌+◌, ◌==◌, Bool, true, false, List, [], ◌∷◌, Option, Some, None, refl, sym, ap, ◌∙◌, subst}
-use Rattle.std.specs.Prelude.{◌&&◌, not, is_some, flat_map, Result, Ok, Err, if◌then◌else◌}
+use Rattle.std.proofs.Common.{◌≡◌, ℕ, ◌+◌, Bool, true, false, List, [], ◌∷◌, Option, Some, None, refl, ap, ◌∙◌, subst}
+use Rattle.std.specs.Prelude.{◌&&◌, not, is_some, flat_map, if◌then◌else◌}
 use Rattle.plain_tree.specs.Types.{PlainType}
-use Rattle.plain_tree.specs.Ops.{Kind, Op, op, Ops, Regions, Blocks, Values}
-use Rattle.conversion_model.specs.Templates.{Template, numbers, written}
-use Rattle.conversion_model.specs.Targets.{Shape, Target, Mode, Partial, Full, demanded, is_legal, name_of, shape_of}
+use Rattle.plain_tree.specs.Ops.{Op}
+use Rattle.conversion_model.specs.Templates.{Template}
+use Rattle.conversion_model.specs.Targets.{Shape, Mode, Partial, Full, demanded, is_legal, name_of, shape_of}
 use Rattle.conversion_model.specs.Rows.{Frame, Piece, Part}
 use Rattle.conversion_model.specs.Chosen.{chosen}
-use Rattle.conversion_model.specs.Choice.{Choice, Stays, Line, Cuts, Frames}
-use Rattle.conversion_model.specs.Items.{From, HeldBlock, Ways, held_regions, puts, text_of, whole_items, whole_regions, Begins}
-use Rattle.conversion_model.specs.Uses.{copies_left_out, operations, types_of}
+use Rattle.conversion_model.specs.Choice.{Choice}
+use Rattle.conversion_model.specs.Items.{From, HeldBlock, whole_items}
+use Rattle.conversion_model.specs.Uses.{operations, types_of}
 use Rattle.conversion_model.specs.Conversion.{Pass, Supply, Unlegalised, choice_in, conv, converted, finished, first_unlegalised, framed_blocks, framed_regions, function_by, is_source, line_by, line_of, or_fails, params_from, params_of, pieces_of, regions_of, replacements, ways, with_blocks}
-use Rattle.conversion_model.specs.Renamings.{RenAll, none_all, more_all, RenValues, none_values, more_values, RenOp, ren_op, RenRegions, regions_ended, ren_region, RenBlocks, blocks_ended, ren_block, OneToOne, TypesAgree, TableRenames, RenSupply, RenAnswer, same_failure, ren_function, ConversionRenames}
+use Rattle.conversion_model.specs.Renamings.{none_all, RenValues, none_values, more_values, RenOp, ren_op, RenRegions, regions_ended, ren_region, RenBlocks, blocks_ended, OneToOne, TypesAgree, TableRenames, RenSupply, RenAnswer, same_failure, ren_function, ConversionRenames}
 use Rattle.conversion_model.proofs.RenamedTypes.{name_same, shapes, types_agree}
 use Rattle.conversion_model.proofs.RenamedLines.{RenList, list_ended, list_more, numbers_ren, written_ren}
 use Rattle.conversion_model.proofs.RenamedChoice.{RenChoice, no_choice, ren_stays, ren_line, ren_cuts, ren_frames, choice_ren}
-use Rattle.conversion_model.proofs.RenamedItems.{RenHeld, RenHolds, holds_ended, more_holds, RenHeldRegions, held_ended, more_held, RenWay, no_way, ren_way, RenWays, held_regions_ren, puts_ren, ren_begins, regions_ren, text_ren, whole_ren}
+use Rattle.conversion_model.proofs.RenamedItems.{RenHolds, holds_ended, more_holds, RenHeldRegions, held_ended, more_held, RenWay, no_way, ren_way, RenWays, held_regions_ren, puts_ren, ren_begins, regions_ren, text_ren, whole_ren}
 use Rattle.conversion_model.proofs.RenamedUses.{RenListed, listed_ended, more_listed, left_out_ren, op_blocks_ren, operations_ren}
 use Rattle.conversion_model.proofs.RenamedReconcile.{reconciled_ren}
 

@@ -1,13 +1,11 @@
 -- Renaming: the items of a tree, and regions made of them.
-use Rattle.std.proofs.Common.{◌≡◌, ℕ, ◌+◌, ◌==◌, Bool, true, false, List, [], ◌∷◌, Option, Some, None, refl, sym, ap, ◌∙◌, subst}
+use Rattle.std.proofs.Common.{◌≡◌, ℕ, ◌+◌, ◌==◌, Bool, true, false, List, [], ◌∷◌, Option, Some, None, ap, subst}
 use Rattle.std.specs.Prelude.{◌&&◌, pred, if◌then◌else◌}
-use Rattle.plain_tree.specs.Types.{PlainType}
-use Rattle.plain_tree.specs.Ops.{Kind, Op, op, Ops, end_of_ops, more_ops, Regions, end_of_regions, region, Blocks, end_of_blocks, block, Values}
-use Rattle.conversion_model.specs.Templates.{copy}
+use Rattle.plain_tree.specs.Ops.{Op, op, Ops, Regions, Blocks, Values}
 use Rattle.conversion_model.specs.Targets.{Shape, goes_with_holder, name_of, shape_with}
-use Rattle.conversion_model.specs.Rows.{Piece, Product, Opens, Held, Stands}
+use Rattle.conversion_model.specs.Rows.{Piece}
 use Rattle.conversion_model.specs.Items.{From, HeldBlock, Item, Puts, Begins, Text, Ways, blocks_size, cut, held_at, held_blocks, held_in, held_regions, items, op_at, op_items, op_size, ops_size, puts, text_of, whole_items, whole_regions}
-use Rattle.conversion_model.specs.Renamings.{RenAll, none_all, more_all, RenValues, none_values, more_values, RenOp, ren_op, RenOps, ops_ended, ren_more, RenRegions, regions_ended, ren_region, RenBlocks, blocks_ended, ren_block, RenPieces, pieces_ended, ren_product, ren_opens, ren_held, ren_stands}
+use Rattle.conversion_model.specs.Renamings.{none_all, more_all, RenValues, none_values, more_values, RenOp, ren_op, RenOps, ops_ended, ren_more, RenRegions, regions_ended, ren_region, RenBlocks, blocks_ended, ren_block, RenPieces, pieces_ended, ren_product, ren_opens, ren_held, ren_stands}
 use Rattle.conversion_model.proofs.RenamedTypes.{blocks_sizes, name_same, op_sizes, ops_sizes, shape_same}
 use Rattle.conversion_model.proofs.RenamedLines.{RenList, list_ended, list_more}
 

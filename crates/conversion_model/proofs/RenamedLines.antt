@@ -1,11 +1,11 @@
 -- Renaming: the operations of a template that is written down.
-use Rattle.std.proofs.Common.{◌≡◌, ℕ, zero, suc, ◌+◌, ◌==◌, Bool, true, false, List, [], ◌∷◌, refl, sym, ap, ◌∙◌, subst, length, map}
+use Rattle.std.proofs.Common.{◌≡◌, ℕ, zero, suc, ◌+◌, ◌==◌, Bool, true, false, List, [], ◌∷◌, refl, subst, length, map}
 use Rattle.std.specs.Prelude.{get_or, pred, if◌then◌else◌}
 use Rattle.plain_tree.specs.Types.{PlainType}
-use Rattle.plain_tree.specs.Ops.{Kind, Op, op, Values}
+use Rattle.plain_tree.specs.Ops.{Op, Values}
 use Rattle.conversion_model.specs.declared.templates.Source.{Source}
 use Rattle.conversion_model.specs.declared.templates.Source.TheVariants.{Operand, Made}
-use Rattle.conversion_model.specs.Templates.{Step, Template, copies, copy, label_at, labels_at, named, number_of, numbers, step_op, steps_written, values_made, written}
+use Rattle.conversion_model.specs.Templates.{Step, Template, copies, copy, label_at, labels_at, named, number_of, numbers, steps_written, values_made, written}
 use Rattle.conversion_model.specs.Renamings.{RenAll, none_all, more_all, RenValues, none_values, more_values, RenOp, ren_op, regions_ended, OneToOne}
 
 -- operations in order that go together

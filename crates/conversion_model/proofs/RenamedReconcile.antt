@@ -1,15 +1,15 @@
 -- Renaming: reconciliation.
-use Rattle.std.proofs.Common.{◌≡◌, ℕ, zero, suc, ◌+◌, ◌==◌, Bool, true, false, List, [], ◌∷◌, ◌++◌, Option, Some, None, refl, sym, ap, ◌∙◌, subst, length, map}
+use Rattle.std.proofs.Common.{◌≡◌, ℕ, zero, suc, ◌==◌, Bool, true, false, List, [], ◌∷◌, ◌++◌, Option, Some, None, refl, sym, ap, ◌∙◌, subst, length}
 use Rattle.std.specs.Prelude.{◌||◌, ◌&&◌, not, codes, if◌then◌else◌}
 use Rattle.std.specs.List.{list_any}
 use Rattle.std.specs.Str.{bytes_eq}
 use Rattle.plain_tree.specs.Types.{PlainType, same_type}
-use Rattle.plain_tree.specs.Ops.{Kind, Op, op, Values}
-use Rattle.conversion_model.specs.Targets.{name_of, operands_of}
-use Rattle.conversion_model.specs.Uses.{operations, op_uses, op_without, replaced, types_of}
-use Rattle.conversion_model.specs.Reconciled.{Cast, cast_in, casts_in, first_pair, is_cast, is_cast_of, is_unused_cast, is_used, pair_of, pair_or, pairs_left_out, reconciled, results_of, stands_for, undoes, unused_left_out, without_pair}
+use Rattle.plain_tree.specs.Ops.{Op, op, Values}
+use Rattle.conversion_model.specs.Targets.{operands_of}
+use Rattle.conversion_model.specs.Uses.{operations, replaced, types_of}
+use Rattle.conversion_model.specs.Reconciled.{Cast, cast_in, casts_in, first_pair, is_cast_of, is_unused_cast, is_used, pair_of, pair_or, pairs_left_out, reconciled, stands_for, undoes, unused_left_out, without_pair}
 use Rattle.conversion_model.specs.Renamings.{RenAll, none_all, more_all, RenValues, none_values, more_values, RenOp, ren_op, OneToOne, TypesAgree}
-use Rattle.conversion_model.proofs.RenamedTypes.{name_same, operands_ren, op_sizes, types_agree}
+use Rattle.conversion_model.proofs.RenamedTypes.{operands_ren, op_sizes, types_agree}
 use Rattle.conversion_model.proofs.RenamedUses.{RenListed, listed_ended, more_listed, op_uses_ren, op_without_ren, operations_ren, replaced_ren, TestsAgree}
 use Rattle.conversion_model.proofs.ReconcileLaws.{listed_size}
 

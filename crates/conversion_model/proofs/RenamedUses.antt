@@ -1,14 +1,13 @@
 -- Renaming: copies left out, and block arguments converted.
-use Rattle.std.proofs.Common.{◌≡◌, ℕ, ◌+◌, ◌==◌, Bool, true, false, List, [], ◌∷◌, ◌++◌, Option, Some, None, refl, sym, ap, ◌∙◌, subst, map}
-use Rattle.std.specs.Prelude.{◌&&◌, if◌then◌else◌}
+use Rattle.std.proofs.Common.{◌≡◌, ℕ, ◌+◌, ◌==◌, Bool, true, false, List, [], ◌∷◌, ◌++◌, Option, Some, None, ap, subst, map}
 use Rattle.std.specs.Str.{bytes_eq}
 use Rattle.plain_tree.specs.Types.{PlainType}
-use Rattle.plain_tree.specs.Ops.{Kind, Op, op, Ops, end_of_ops, more_ops, Regions, Blocks, Values}
+use Rattle.plain_tree.specs.Ops.{Op, Ops, more_ops, Regions, Blocks, Values}
 use Rattle.conversion_model.specs.Types.{new_type}
 use Rattle.conversion_model.specs.Templates.{copy_name}
 use Rattle.conversion_model.specs.Items.{op_size, ops_size, blocks_size}
 use Rattle.conversion_model.specs.Uses.{blocks_listed, copies_in, copies_left_out, followed, is_copy, op_listed, operations, ops_listed, op_uses, ops_uses, regions_uses, blocks_uses, op_without, ops_without, regions_without, blocks_without, pair_in, regions_listed, replaced}
-use Rattle.conversion_model.specs.Conversion.{blocks_blocks, cast_back, cast_op, casts_back, new_argument, new_arguments, op_blocks, ops_blocks, regions_blocks}
+use Rattle.conversion_model.specs.Conversion.{blocks_blocks, cast_back, casts_back, new_argument, new_arguments, op_blocks, ops_blocks, regions_blocks}
 use Rattle.conversion_model.specs.Renamings.{RenAll, none_all, more_all, RenValues, none_values, more_values, RenOp, ren_op, RenOps, ops_ended, ren_more, RenRegions, regions_ended, ren_region, RenBlocks, blocks_ended, ren_block, OneToOne}
 use Rattle.conversion_model.proofs.RenamedTypes.{blocks_sizes, name_same, op_sizes, ops_sizes}
 use Rattle.conversion_model.proofs.RenamedLines.{either_way}

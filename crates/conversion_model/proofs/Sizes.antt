@@ -1,8 +1,8 @@
 -- How many operations a tree has: what is left out makes it smaller, and other operands leave it as it is.
-use Rattle.std.proofs.Common.{◌≡◌, ℕ, suc, ◌+◌, ◌≤◌, Bool, true, false, List, [], ◌∷◌, refl, sym, ap, ◌∙◌, length, arith, true≢false}
+use Rattle.std.proofs.Common.{◌≡◌, ℕ, suc, ◌+◌, ◌≤◌, Bool, true, false, List, refl, sym, ap, ◌∙◌, length, arith, true≢false}
 use Rattle.std.specs.Prelude.{◌||◌, if◌then◌else◌}
 use Rattle.std.specs.List.{list_any}
-use Rattle.plain_tree.specs.Ops.{Kind, Op, op, Ops, end_of_ops, more_ops, Regions, end_of_regions, region, Blocks, end_of_blocks, block, Values}
+use Rattle.plain_tree.specs.Ops.{Op, op, Ops, end_of_ops, more_ops, Regions, end_of_regions, region, Blocks, end_of_blocks, block}
 use Rattle.conversion_model.specs.Items.{op_size, ops_size, regions_size, blocks_size}
 use Rattle.conversion_model.specs.Uses.{op_listed, ops_listed, regions_listed, blocks_listed, op_uses, ops_uses, regions_uses, blocks_uses, op_without, ops_without, regions_without, blocks_without}
 

@@ -1,5 +1,5 @@
 -- The rows of cf_lowering on branches.
-use Rattle.std.specs.Prelude.{ℕ, ◌≡◌, refl, List, [], ◌∷◌, ℤ, pos, Option, Some, None, codes}
+use Rattle.std.specs.Prelude.{ℕ, ◌≡◌, refl, List, [], ◌∷◌, pos, Option, Some, None, codes}
 use Rattle.plain_tree.specs.Types.{PlainType, Int, Index}
 use Rattle.plain_tree.specs.Attrs.{Entries, Numbers}
 use Rattle.conversion_model.specs.declared.templates.Source.TheVariants.{Operand, Made}

@@ -1,10 +1,9 @@
 -- Pipelines over modules: failures with their numbers, what stands behind them, and the step on the module.
-use Rattle.std.specs.Prelude.{ℕ, ◌+◌, ◌*◌, ◌≡◌, refl, List, [], ◌∷◌, map, pos, Option, Some, None, codes}
-use Rattle.plain_tree.specs.Types.{PlainType, Int, Index, Ptr, Void, Memref}
+use Rattle.std.specs.Prelude.{ℕ, ◌≡◌, refl, List, [], ◌∷◌, map, Option, Some, None, codes}
+use Rattle.plain_tree.specs.Types.{PlainType, Int, Index, Ptr, Void}
 use Rattle.plain_tree.specs.Attrs.{Symbol}
 use Rattle.plain_tree.specs.Ops.{Op, end_of_blocks, PlainModule}
-use Rattle.tree_model.specs.declared.type_tree.Dim.TheVariants.{Fixed, Dynamic}
-use Rattle.pipeline_text.specs.declared.pass.PassName.TheVariants.{ConvertScfToCf, ArithExpand, ConvertArithToLlvm, ConvertCfToLlvm, ConvertFuncToLlvm, FinalizeMemrefToLlvm, ReconcileUnrealizedCasts, FullConvertToLlvm}
+use Rattle.pipeline_text.specs.declared.pass.PassName.TheVariants.{ConvertScfToCf, ArithExpand, ConvertArithToLlvm, ConvertCfToLlvm, ConvertFuncToLlvm, ReconcileUnrealizedCasts, FullConvertToLlvm}
 use Rattle.pipeline_text.specs.declared.pass.PassName.{PassName}
 use Rattle.pipeline_text.specs.declared.pass.Anchor.TheVariants.{FuncFunc}
 use Rattle.pipeline_text.specs.declared.pass.PassUse.{PassUse}
@@ -14,7 +13,7 @@ use Rattle.conversion_model.specs.Conversion.{Supply}
 use Rattle.pattern_model.specs.PassTable.{full_target, patterns_with}
 use Rattle.pattern_model.specs.Tables.{all_sets}
 use Rattle.pattern_model.specs.ModuleStep.{allocators_declared}
-use Rattle.pattern_model.specs.Fold.{Folded, folded_stages, width}
+use Rattle.pattern_model.specs.Fold.{folded_stages, width}
 use Rattle.pattern_model.proofs.Trees.{plain, ends, one_block, func, llvm_func, counted_up}
 
 abbrev new : ℕ → ℕ → ℕ → Supply

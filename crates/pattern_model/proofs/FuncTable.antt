@@ -1,16 +1,15 @@
 -- The rows of func_lowering.
-use Rattle.std.specs.Prelude.{ℕ, ◌≡◌, refl, List, [], ◌∷◌, ◌++◌, ℤ, pos, Option, Some, None, codes}
+use Rattle.std.specs.Prelude.{ℕ, ◌≡◌, refl, List, [], ◌∷◌, ◌++◌, ℤ, pos, Some, None, codes}
 use Rattle.tree_model.specs.declared.type_tree.Dim.TheVariants.{Fixed, Dynamic}
-use Rattle.plain_tree.specs.Types.{PlainType, Int, Index, Memref, Ptr, Func, LlvmFunc, Void, Struct, types_in}
+use Rattle.plain_tree.specs.Types.{PlainType, Int, Index, Memref, Ptr, Func, LlvmFunc, Struct, types_in}
 use Rattle.plain_tree.specs.Attrs.{Entries, Unit, Text, Symbol, OfType, Dialect}
 use Rattle.conversion_model.specs.declared.templates.Source.{Source}
 use Rattle.conversion_model.specs.declared.templates.Source.TheVariants.{Operand, Made}
 use Rattle.conversion_model.specs.Types.{descriptor}
-use Rattle.conversion_model.specs.Templates.{Step, Template}
-use Rattle.conversion_model.specs.Rows.{Frame, Part}
+use Rattle.conversion_model.specs.Templates.{Step}
 use Rattle.conversion_model.specs.Targets.{Shape}
 use Rattle.pattern_model.specs.FuncRows.{func_set, func_row}
-use Rattle.pattern_model.proofs.RowTables.{shape, table_at, step, steps_to, steps_only, alone, the_operand, at_place}
+use Rattle.pattern_model.proofs.RowTables.{shape, table_at, step, steps_only, alone, the_operand, at_place}
 
 abbrev buffer : PlainType
 buffer = Memref (Dynamic ∷ Fixed 3 ∷ []) (Int 8)

@@ -1,7 +1,7 @@
 -- Memrefs at both widths.
-use Rattle.std.specs.Prelude.{ℕ, ◌≡◌, refl, List, [], ◌∷◌, ℤ, pos, Ok, Err, codes}
+use Rattle.std.specs.Prelude.{ℕ, ◌≡◌, refl, List, [], ◌∷◌, ℤ, pos, Ok, codes}
 use Rattle.tree_model.specs.declared.type_tree.Dim.TheVariants.{Fixed, Dynamic}
-use Rattle.plain_tree.specs.Types.{PlainType, Int, Index, Memref, Ptr}
+use Rattle.plain_tree.specs.Types.{PlainType, Int, Memref, Ptr}
 use Rattle.plain_tree.specs.Attrs.{Entries, Numbers}
 use Rattle.plain_tree.specs.Ops.{Op}
 use Rattle.pipeline_text.specs.declared.pass.PassName.TheVariants.{FullConvertToLlvm}

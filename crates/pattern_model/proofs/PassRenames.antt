@@ -1,12 +1,11 @@
 -- For any two fresh supplies a pass makes the same of a function, up to numbers.
 use Rattle.std.proofs.Common.{ℕ, List, [], ◌∷◌, ◌++◌, Option, Some, None}
-use Rattle.std.specs.Prelude.{Ok}
 use Rattle.pipeline_text.specs.declared.pass.PassName.{PassName}
 use Rattle.pipeline_text.specs.declared.pass.PassName.TheVariants.{ConvertScfToCf, ArithExpand, ConvertArithToLlvm, ConvertCfToLlvm, ConvertFuncToLlvm, FinalizeMemrefToLlvm, ReconcileUnrealizedCasts, FullConvertToLlvm}
 use Rattle.plain_tree.specs.Ops.{Op}
 use Rattle.conversion_model.specs.Rows.{Pattern}
 use Rattle.conversion_model.specs.Renamings.{Anything, always, OneToOne, TableRenames, RenOp, RenSupply, RenAnswer, ren_function}
-use Rattle.conversion_model.specs.Fresh.{Fresh, SameValue, SameLabel}
+use Rattle.conversion_model.specs.Fresh.{SameValue, SameLabel}
 use Rattle.conversion_model.specs.Conversion.{Pass, Supply}
 use Rattle.conversion_model.proofs.RenamedConversion.{conversion_renames}
 use Rattle.conversion_model.proofs.RenamedReconcile.{reconciled_ren}

@@ -1,5 +1,5 @@
 -- A conditional lowered: the function `pick`, whose scf.if yields one of two arguments, and its two ways on.
-use Rattle.std.specs.Prelude.{ℕ, ◌≡◌, refl, List, [], ◌∷◌, pos, Ok, codes}
+use Rattle.std.specs.Prelude.{◌≡◌, refl, [], ◌∷◌, pos, Ok, codes}
 use Rattle.plain_tree.specs.Types.{Int}
 use Rattle.plain_tree.specs.Attrs.{Number}
 use Rattle.plain_tree.specs.Ops.{Op, ops_in, region, end_of_regions, end_of_blocks, block}

@@ -1,5 +1,5 @@
 -- scf.while, scf.index_switch and scf.execute_region cut.
-use Rattle.std.specs.Prelude.{ℕ, ◌≡◌, refl, List, [], ◌∷◌, pos, Ok, codes}
+use Rattle.std.specs.Prelude.{ℕ, ◌≡◌, refl, [], ◌∷◌, pos, Ok, codes}
 use Rattle.plain_tree.specs.Types.{Int, Index}
 use Rattle.plain_tree.specs.Attrs.{Entries, Number, Numbers}
 use Rattle.plain_tree.specs.Ops.{Op, op, ops_in, region, end_of_regions, end_of_blocks, block}

@@ -1,16 +1,16 @@
 -- The rows of scf look at numbers only as at names.
-use Rattle.std.proofs.Common.{◌≡◌, ℕ, suc, ◌+◌, ◌*◌, ◌==◌, Bool, true, false, List, [], ◌∷◌, Option, Some, None, refl, sym, ap, ◌∙◌, subst, length, map}
+use Rattle.std.proofs.Common.{◌≡◌, ℕ, suc, ◌+◌, ◌*◌, ◌==◌, Bool, true, false, List, [], ◌∷◌, Option, Some, None, refl, ap, ◌∙◌, subst, length, map}
 use Rattle.std.specs.Prelude.{ℤ, pos, codes, if◌then◌else◌}
 use Rattle.plain_tree.specs.Types.{PlainType, Int, Index}
 use Rattle.plain_tree.specs.Attrs.{Entries, PlainAttr, entry}
 use Rattle.plain_tree.specs.Attrs as attr
-use Rattle.plain_tree.specs.Ops.{Kind, Op, op, Ops, end_of_ops, more_ops, Regions, end_of_regions, region, Blocks, end_of_blocks, block, Values}
+use Rattle.plain_tree.specs.Ops.{op, Ops, more_ops, Regions, end_of_regions, Blocks, Values}
 use Rattle.conversion_model.specs.Targets.{name_of, operands_of, goes_with_holder}
-use Rattle.conversion_model.specs.Rows.{Cutting, Numbers, Piece, Product, Opens, Held, Stands}
-use Rattle.conversion_model.specs.Renamings.{RenAll, none_all, more_all, RenValues, none_values, more_values, RenOp, ren_op, RenOps, ops_ended, ren_more, RenRegions, regions_ended, ren_region, RenBlocks, blocks_ended, ren_block, RenPieces, pieces_ended, ren_product, ren_opens, ren_held, ren_stands, RenCut, no_cut, ren_cut, RenNumbers, RowRenames, OneToOne, TypesAgree}
+use Rattle.conversion_model.specs.Rows.{Cutting, Numbers, Piece, Product}
+use Rattle.conversion_model.specs.Renamings.{RenAll, none_all, more_all, RenValues, none_values, more_values, ren_op, RenOps, ops_ended, ren_more, RenRegions, regions_ended, ren_region, RenBlocks, blocks_ended, ren_block, RenPieces, pieces_ended, ren_product, ren_opens, ren_held, ren_stands, RenCut, no_cut, ren_cut, RenNumbers, RowRenames, OneToOne, TypesAgree}
 use Rattle.conversion_model.proofs.RenamedTypes.{all_length, name_same, operand_types, operands_ren}
 use Rattle.pattern_model.specs.Drafts.{constant_value, predicate, sizes}
-use Rattle.pattern_model.specs.ScfRows.{Single, branch, case_pieces, conditional, execute_row, for_of, for_pieces, for_row, head_pieces, held_block, held_blocks, if_alone, if_of, if_pieces, if_row, if_without_else, or_none, passed_by, product, single, singles, stand_for, switch_blocks, switch_cases, switch_pieces, switch_row, test_pieces, tests, while_of, while_passed, while_pieces, while_row, with_single, with_type, yields_to}
+use Rattle.pattern_model.specs.ScfRows.{Single, branch, case_pieces, conditional, execute_row, for_of, for_row, head_pieces, held_block, held_blocks, if_alone, if_of, if_row, or_none, passed_by, product, single, singles, stand_for, switch_blocks, switch_cases, switch_pieces, switch_row, test_pieces, tests, while_of, while_passed, while_row, with_single, with_type, yields_to}
 
 -- Products
 

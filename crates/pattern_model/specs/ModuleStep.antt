@@ -1,12 +1,12 @@
 -- The step of a pass on the module: declarations of the allocation functions that calls name.
-use Rattle.std.specs.Prelude.{ℕ, Bool, true, false, not, ◌&&◌, List, [], ◌∷◌, ◌++◌, Option, Some, None, if◌then◌else◌, codes}
+use Rattle.std.specs.Prelude.{ℕ, Bool, false, not, ◌&&◌, List, [], ◌∷◌, ◌++◌, Option, Some, None, if◌then◌else◌, codes}
 use Rattle.std.specs.List.{list_any}
 use Rattle.std.specs.Str.{bytes_eq}
 use Rattle.pipeline_text.specs.declared.pass.PassName.{PassName}
 use Rattle.pipeline_text.specs.declared.pass.PassName.TheVariants.{FinalizeMemrefToLlvm, FullConvertToLlvm}
 use Rattle.plain_tree.specs.Types.{PlainType, Int, Ptr, Void, LlvmFunc, types_in}
-use Rattle.plain_tree.specs.Attrs.{Entries, PlainAttr, Text, Symbol, OfType, Dialect, entry}
-use Rattle.plain_tree.specs.Ops.{Kind, Op, op, Regions, end_of_regions, region, end_of_blocks}
+use Rattle.plain_tree.specs.Attrs.{Entries, PlainAttr, Text, Symbol, entry}
+use Rattle.plain_tree.specs.Ops.{Op, op, end_of_regions, region, end_of_blocks}
 use Rattle.conversion_model.specs.Uses.{operations}
 use Rattle.pattern_model.specs.FuncRows.{function_props}
 

@@ -1,9 +1,9 @@
 -- The patterns of scf_lowering: the block is cut behind the operation into head and rest, and region blocks go between.
-use Rattle.std.specs.Prelude.{ℕ, true, false, ◌+◌, ◌*◌, ◌==◌, List, [], ◌∷◌, map, length, Option, Some, None, ℤ, pos, if◌then◌else◌, codes}
+use Rattle.std.specs.Prelude.{ℕ, false, ◌+◌, ◌*◌, ◌==◌, List, [], ◌∷◌, map, length, Option, Some, None, ℤ, pos, if◌then◌else◌, codes}
 use Rattle.plain_tree.specs.Types.{PlainType, Int, Index}
 use Rattle.plain_tree.specs.Attrs.{Entries, PlainAttr, Number, entry}
 use Rattle.plain_tree.specs.Attrs as attr
-use Rattle.plain_tree.specs.Ops.{Kind, Op, op, Ops, end_of_ops, more_ops, Regions, end_of_regions, region, Blocks, end_of_blocks, block, Values}
+use Rattle.plain_tree.specs.Ops.{Op, op, Ops, end_of_ops, more_ops, Regions, end_of_regions, region, Blocks, end_of_blocks, block, Values}
 use Rattle.conversion_model.specs.Targets.{name_of, operands_of, goes_with_holder}
 use Rattle.conversion_model.specs.Rows.{Pattern, Cutting, Numbers, Piece, Product, Opens, Held, Stands}
 use Rattle.pattern_model.specs.Drafts.{predicate, sizes, constant_value}
