@@ -1,16 +1,15 @@
 -- Casts round the products of patterns that convert types.
-use Rattle.std.specs.Prelude.{ℕ, ◌≡◌, refl, Bool, true, false, List, [], ◌∷◌, map, Option, Some, None, codes, Ok, Err}
+use Rattle.std.specs.Prelude.{ℕ, ◌≡◌, refl, Bool, true, false, List, [], ◌∷◌, Some, codes, Ok}
 use Rattle.plain_tree.specs.Types.{PlainType, Int, Index}
 use Rattle.conversion_model.specs.declared.templates.Source.{Source}
 use Rattle.conversion_model.specs.Templates.{Step, Template}
 use Rattle.conversion_model.specs.Chosen.{chosen}
 use Rattle.plain_tree.specs.Ops.{Op}
 use Rattle.conversion_model.specs.declared.templates.Source.TheVariants.{Operand, Made}
-use Rattle.conversion_model.specs.Targets.{Target, Shape, Legal, Illegal, Partial, Full}
+use Rattle.conversion_model.specs.Targets.{Shape, Legal, Illegal, Partial}
 use Rattle.conversion_model.specs.Rows.{Pattern, Straight}
-use Rattle.conversion_model.specs.Reconciled.{reconciled}
 use Rattle.conversion_model.specs.Conversion.{Pass, conv}
-use Rattle.conversion_model.proofs.TestSet.{shape_a, one_op, to_one, says, plain, func_of, counted_up}
+use Rattle.conversion_model.proofs.TestSet.{one_op, says, plain, func_of, counted_up}
 
 add_pattern : Pattern
 add_pattern = record { root = codes "t.add"; makes = codes "t.sum" ∷ []; benefit = 1; is_converted = true; row = λ bits. Straight (λ o. Some (one_op (codes "t.sum") (Operand 0 ∷ Operand 1 ∷ []) (Int bits))) }
@@ -43,8 +42,8 @@ dbl_converts = refl
 twice : Template
 twice = record {
   steps =
-    record { name = codes "t.sum"; props = []; sources = Operand 1 ∷ Operand 0 ∷ []; successors = []; makes = Int 64 ∷ [] }
-    ∷ record { name = codes "t.sum"; props = []; sources = Made 0 ∷ Operand 1 ∷ []; successors = []; makes = Int 64 ∷ Int 64 ∷ [] } ∷ [];
+      record { name = codes "t.sum"; props = []; sources = Operand 1 ∷ Operand 0 ∷ []; successors = []; makes = Int 64 ∷ [] }
+      ∷ record { name = codes "t.sum"; props = []; sources = Made 0 ∷ Operand 1 ∷ []; successors = []; makes = Int 64 ∷ Int 64 ∷ [] } ∷ [];
   results = Made 2 ∷ Operand 0 ∷ [];
 }
 
@@ -63,10 +62,10 @@ two_indices = record { name = codes "t.add"; operands = Index ∷ Index ∷ []; 
 -- every type changes: a cast for each operand in front, one for each result behind; the second result is the first operand
 two_products : chosen 64 (says ((codes "t.sum", Legal) ∷ [])) (twice_pattern true ∷ []) [] two_indices ≡ Some (record {
   steps =
-    cast (Operand 0) (Int 64) ∷ cast (Operand 1) (Int 64)
-    ∷ sum (Made 1 ∷ Made 0 ∷ []) (Int 64 ∷ [])
-    ∷ sum (Made 2 ∷ Made 1 ∷ []) (Int 64 ∷ Int 64 ∷ [])
-    ∷ cast (Made 4) Index ∷ cast (Made 0) Index ∷ [];
+      cast (Operand 0) (Int 64) ∷ cast (Operand 1) (Int 64)
+      ∷ sum (Made 1 ∷ Made 0 ∷ []) (Int 64 ∷ [])
+      ∷ sum (Made 2 ∷ Made 1 ∷ []) (Int 64 ∷ Int 64 ∷ [])
+      ∷ cast (Made 4) Index ∷ cast (Made 0) Index ∷ [];
   results = Made 5 ∷ Made 6 ∷ [];
 })
 unfolding twice_pattern twice

@@ -1,12 +1,11 @@
 -- Where no type changes there is no cast.
-use Rattle.std.proofs.Common.{◌≡◌, ℕ, ◌+◌, List, [], ◌∷◌, Option, Some, None, refl, sym, ap, ◌∙◌}
+use Rattle.std.proofs.Common.{◌≡◌, ℕ, ◌+◌, List, [], ◌∷◌, Option, Some, None, refl, ap, ◌∙◌}
 use Rattle.std.specs.Prelude.{map}
 use Rattle.plain_tree.specs.Types.{PlainType}
 use Rattle.conversion_model.specs.declared.templates.Source.{Source}
 use Rattle.conversion_model.specs.declared.templates.Source.TheVariants.{Operand}
-use Rattle.conversion_model.specs.Templates.{Step, Template}
-use Rattle.conversion_model.specs.Targets.{Shape}
-use Rattle.conversion_model.specs.Chosen.{Leaves, State, Ending, and_then, after, by_template, give_one, give_results, here, nothing_yet, product, products, take_one, take_operands, with_moved, with_operand, with_result}
+use Rattle.conversion_model.specs.Templates.{Step}
+use Rattle.conversion_model.specs.Chosen.{Leaves, State, Ending, and_then, after, give_one, give_results, here, nothing_yet, product, products, take_one, take_operands, with_moved, with_operand, with_result}
 use Rattle.conversion_model.specs.Promises.{Unchanged, NoCasts}
 
 abbrev stays : PlainType → Option PlainType

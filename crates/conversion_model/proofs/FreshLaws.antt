@@ -1,10 +1,10 @@
 -- Two fresh supplies give conversions that are the same up to numbers.
-use Rattle.std.proofs.Common.{◌≡◌, ℕ, ◌==◌, Bool, true, false, List, [], ◌∷◌, refl, sym, ap, ◌∙◌, subst}
+use Rattle.std.proofs.Common.{◌≡◌, ℕ, ◌==◌, Bool, true, false, List, [], ◌∷◌, refl, sym, ap, ◌∙◌}
 use Rattle.std.specs.Prelude.{◌&&◌}
-use Rattle.plain_tree.specs.Ops.{Kind, Op, op, Ops, end_of_ops, more_ops, Regions, end_of_regions, region, Blocks, end_of_blocks, block, Values}
+use Rattle.plain_tree.specs.Ops.{Op, op, Ops, end_of_ops, more_ops, Regions, end_of_regions, region, Blocks, end_of_blocks, block, Values}
 use Rattle.conversion_model.specs.Conversion.{Pass, Supply, conv}
-use Rattle.conversion_model.specs.Fresh.{Place, of_row, of_line, of_function, of_block, new_value, same_place, EachOf, EachValue, EachOp, EachOps, EachRegion, EachBlock, IsOld, IsOldLabel, Fresh, SameLabel, old_label, new_label, SamePlaces, same_row, same_line, same_function, same_block, SameValue, old_number, new_number}
-use Rattle.conversion_model.specs.Renamings.{RenAll, none_all, more_all, RenValues, none_values, more_values, RenOp, ren_op, RenOps, ops_ended, ren_more, RenRegions, regions_ended, ren_region, RenBlocks, blocks_ended, ren_block, OneToOne, RenNumbers, RenSupply, RenAnswer, TableRenames}
+use Rattle.conversion_model.specs.Fresh.{Place, of_row, of_line, of_function, of_block, same_place, EachOf, EachValue, EachOp, EachOps, EachRegion, EachBlock, Fresh, SameLabel, old_label, new_label, SamePlaces, same_row, same_line, same_function, same_block, SameValue, old_number, new_number}
+use Rattle.conversion_model.specs.Renamings.{RenAll, none_all, more_all, RenValues, none_values, more_values, RenOp, ren_op, RenOps, ops_ended, ren_more, RenRegions, regions_ended, ren_region, RenBlocks, blocks_ended, ren_block, OneToOne, RenSupply, RenAnswer, TableRenames}
 use Rattle.std.proofs.lemmas.Bool.{eqb-true}
 use Rattle.conversion_model.proofs.ReconcileLaws.{same_number}
 use Rattle.conversion_model.proofs.RenamedConversion.{conversion_renames}
@@ -93,4 +93,4 @@ pub supplies_agree : (p : Pass) (bits : ℕ) (new other : Supply) (f : Op) → T
     → RenAnswer (SameValue new other) (SameLabel new other) (conv p bits new f) (conv p bits other f)
 supplies_agree p bits new other f all here there =
     conversion_renames (SameValue new other) (SameLabel new other) p bits new other f f (values_one new other f here there) (labels_one new other f here there) all (new_ones new other)
-      (old_function new other f here there)
+    (old_function new other f here there)

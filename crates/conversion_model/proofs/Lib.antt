@@ -14,3 +14,4 @@ pub mod RenamedUses
 pub mod RenamedReconcile
 pub mod RenamedConversion
 pub mod FreshLaws
+pub mod UnusedLaws

@@ -1,13 +1,12 @@
 -- Modes, numbers of operations, block arguments and reconciliation.
-use Rattle.std.specs.Prelude.{ℕ, ◌≡◌, refl, Bool, true, false, List, [], ◌∷◌, map, Option, Some, None, codes, Ok, Err}
+use Rattle.std.specs.Prelude.{ℕ, ◌≡◌, refl, true, false, [], ◌∷◌, codes, Ok, Err}
 use Rattle.plain_tree.specs.Types.{PlainType, Int, Index}
 use Rattle.plain_tree.specs.Attrs.{Unit}
 use Rattle.plain_tree.specs.Ops.{Op, op, ops_in, region, end_of_regions, block, end_of_blocks}
 use Rattle.conversion_model.specs.Targets.{Target, Mode, Legal, Illegal, Partial, Full}
-use Rattle.conversion_model.specs.Rows.{Pattern}
 use Rattle.conversion_model.specs.Reconciled.{reconciled}
 use Rattle.conversion_model.specs.Conversion.{Pass, conv}
-use Rattle.conversion_model.proofs.TestSet.{one_op, to_one, says, plain, func_of, counted_up}
+use Rattle.conversion_model.proofs.TestSet.{to_one, says, plain, func_of, counted_up}
 
 abbrev target : Target
 target = says ((codes "t.func", Legal) ∷ (codes "t.c", Legal) ∷ (codes "t.a", Illegal) ∷ [])

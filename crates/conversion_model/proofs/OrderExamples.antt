@@ -1,11 +1,10 @@
 -- Depth, order and the chosen derivation on the test set.
-use Rattle.std.specs.Prelude.{ℕ, ◌≡◌, refl, Bool, true, false, List, [], ◌∷◌, map, Option, Some, None, codes, Ok, Err}
+use Rattle.std.specs.Prelude.{ℕ, ◌≡◌, refl, false, List, [], ◌∷◌, map, Option, Some, None, codes, Ok}
 use Rattle.plain_tree.specs.Types.{PlainType, Int, Index, Ptr}
 use Rattle.conversion_model.specs.Templates.{Template}
-use Rattle.plain_tree.specs.Ops.{Op}
-use Rattle.conversion_model.specs.Targets.{Target, Shape, Legal, Illegal, Partial, Full}
+use Rattle.conversion_model.specs.Targets.{Target, Legal, Partial}
 use Rattle.conversion_model.specs.Rows.{Pattern, Straight}
-use Rattle.conversion_model.specs.Chosen.{Ranked, depth, order, chosen, itself}
+use Rattle.conversion_model.specs.Chosen.{Ranked, depth, order, chosen}
 use Rattle.conversion_model.specs.Conversion.{Pass, conv}
 use Rattle.conversion_model.proofs.TestSet.{test_table, undone_table, c_legal, c_dynamic, shape_a, one_op, to_one, says, plain, func_of, counted_up}
 

@@ -1,5 +1,5 @@
 -- Behind reconciliation no cast is left that another one undoes, and none without uses.
-use Rattle.std.proofs.Common.{◌≡◌, ℕ, zero, suc, ◌+◌, ◌≤◌, ◌==◌, Bool, true, false, List, [], ◌∷◌, ◌++◌, Option, Some, None, refl, sym, ap, ◌∙◌, subst, length, arith, true≢false}
+use Rattle.std.proofs.Common.{◌≡◌, ℕ, zero, suc, ◌≤◌, ◌==◌, Bool, true, false, List, [], ◌∷◌, Option, Some, None, refl, sym, ap, ◌∙◌, subst, length, arith, true≢false}
 use Rattle.std.specs.Prelude.{◌||◌, ◌&&◌, not, codes, T, if◌then◌else◌}
 use Rattle.std.specs.List.{list_any}
 use Rattle.std.specs.Str.{bytes_eq}
@@ -7,12 +7,12 @@ use Rattle.std.proofs.lemmas.List.Folds.{list_any-append}
 use Rattle.std.proofs.Math.Bool.{or-false}
 use Rattle.std.proofs.Math.Dec.{eqb_refl}
 use Rattle.plain_tree.specs.Types.{PlainType}
-use Rattle.plain_tree.specs.Ops.{Kind, Op, op, Values}
+use Rattle.plain_tree.specs.Ops.{Op, op}
 use Rattle.conversion_model.specs.Items.{op_size}
 use Rattle.conversion_model.specs.Uses.{operations, op_uses, op_without, replaced, types_of}
-use Rattle.conversion_model.specs.Reconciled.{Cast, cast_in, casts_in, first_pair, is_cast, is_cast_of, is_unused_cast, is_used, pair_of, pair_or, pairs_left_out, reconciled, results_of, stands_for, undoes, unused_left_out, without_pair}
+use Rattle.conversion_model.specs.Reconciled.{Cast, cast_in, casts_in, first_pair, is_cast, is_cast_of, is_unused_cast, is_used, pair_of, pair_or, pairs_left_out, results_of, stands_for, unused_left_out, without_pair}
 use Rattle.conversion_model.specs.Promises.{NoPairLeft, NoUnusedCast}
-use Rattle.conversion_model.proofs.Sizes.{either, op_any_listed, op_count, op_fewer, op_inside, op_less, op_uses_size}
+use Rattle.conversion_model.proofs.Sizes.{op_any_listed, op_count, op_fewer, op_inside, op_less, op_uses_size}
 
 -- the number of operations of a function, as the list has them
 pub listed_size : (f : Op) → length (operations f) ≡ op_size f
@@ -156,9 +156,9 @@ pub unused_end : (room : ℕ) (f : Op) → is_cast f ≡ false → op_size f ≤
 unused_end zero f root small = not_empty f small
 unused_end (suc room) f root small =
     by_unused room f (has_unused f) refl (λ is.
-      unused_end room (op_without (is_unused_cast (operations f)) f) (cast_without (is_unused_cast (operations f)) f ∙ root) (omega (arith, small, unused_fewer f root is)))
+    unused_end room (op_without (is_unused_cast (operations f)) f) (cast_without (is_unused_cast (operations f)) f ∙ root) (omega (arith, small, unused_fewer f root is)))
 
 pub no_unused_cast : NoUnusedCast
 no_unused_cast f root =
     unused_end (length (operations f)) (pairs_left_out (length (operations f)) f) (pairs_root (length (operations f)) f root)
-      (omega (arith, listed_size f, pairs_no_more (length (operations f)) f))
+    (omega (arith, listed_size f, pairs_no_more (length (operations f)) f))

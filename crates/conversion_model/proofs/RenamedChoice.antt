@@ -1,14 +1,14 @@
 -- Renaming: what replaces an operation.
-use Rattle.std.proofs.Common.{◌≡◌, ℕ, ◌+◌, ◌==◌, Bool, true, false, List, [], ◌∷◌, Option, Some, None, refl, sym, ap, ◌∙◌, subst, length, map}
+use Rattle.std.proofs.Common.{◌≡◌, ℕ, ◌+◌, Bool, true, false, List, [], ◌∷◌, Option, Some, None, refl, ap, ◌∙◌, subst, map}
 use Rattle.std.specs.Prelude.{◌&&◌, is_some, if◌then◌else◌}
 use Rattle.plain_tree.specs.Types.{PlainType}
-use Rattle.plain_tree.specs.Ops.{Kind, Op, op, Values, Regions, Blocks}
+use Rattle.plain_tree.specs.Ops.{Op}
 use Rattle.conversion_model.specs.Templates.{Template}
-use Rattle.conversion_model.specs.Targets.{Shape, Target, is_legal, name_of, shape_of, shape_with}
-use Rattle.conversion_model.specs.Rows.{Row, Straight, Cutting, Framing, Pattern, Numbers, Piece, Product, Opens, Held, Stands, Frame}
+use Rattle.conversion_model.specs.Targets.{Target, is_legal, name_of, shape_of, shape_with}
+use Rattle.conversion_model.specs.Rows.{Row, Straight, Cutting, Framing, Pattern, Numbers, Piece, Frame}
 use Rattle.conversion_model.specs.Chosen.{Leaves, Ranked, and_then, or_else, by_row, change_of, chosen, depth, goes_before, has_root, in_order, order, pattern_depth, put_in, ranked}
 use Rattle.conversion_model.specs.Choice.{Choice, Stays, Line, Cuts, Frames, all_legalised, choice, entry_leaves, first_arguments, first_choice, frame_shape, framed, row_choice}
-use Rattle.conversion_model.specs.Renamings.{RenAll, RenValues, none_values, RenOp, ren_op, RenRegions, regions_ended, ren_region, RenBlocks, blocks_ended, ren_block, RenPieces, pieces_ended, ren_product, ren_opens, ren_held, ren_stands, RenCut, no_cut, ren_cut, RenNumbers, RowRenames, TableRenames, Anything, always, OneToOne, TypesAgree}
+use Rattle.conversion_model.specs.Renamings.{RenOp, ren_op, regions_ended, ren_region, blocks_ended, ren_block, RenPieces, pieces_ended, ren_product, ren_opens, ren_held, ren_stands, RenCut, no_cut, ren_cut, RenNumbers, RowRenames, TableRenames, Anything, always, OneToOne, TypesAgree}
 use Rattle.conversion_model.proofs.RenamedTypes.{name_same, shape_same, shapes, value_types}
 
 pub data RenChoice (R L : ℕ → ℕ → Type 0) : Option Choice → Option Choice → Type 0 where
@@ -64,11 +64,11 @@ pub row_choice_ren : {R L : ℕ → ℕ → Type 0} {o p : Op} (bits : ℕ) (con
     → OneToOne R → RenNumbers R L a b → TypesAgree R s t → RenOp R L o p → RowRenames row → RenChoice R L (row_choice bits converted leaves a s o place row) (row_choice bits converted leaves b t p place row)
 row_choice_ren {R = R} {L = L} {o = o} bits converted leaves a b s t place (Straight row) one new agree r renames =
     subst (λ z. RenChoice R L (row_choice bits converted leaves a s o place (Straight row)) (and_then (by_row bits converted leaves z (Straight row)) (λ u. Some (Line u)))) (shapes s t agree r)
-      (line_choice (by_row bits converted leaves (shape_of s o) (Straight row)))
+    (line_choice (by_row bits converted leaves (shape_of s o) (Straight row)))
 row_choice_ren {R = R} {L = L} {o = o} {p = p} bits converted leaves a b s t place (Cutting row) one new agree r renames = cut_choice leaves place (renames R L a b s t o p one new agree r)
 row_choice_ren {R = R} {L = L} {o = o} {p = p} bits converted leaves a b s t place (Framing row) one new agree r renames =
     subst (λ z. RenChoice R L (row_choice bits converted leaves a s o place (Framing row)) (and_then (row z) (framed (change_of bits converted) leaves p))) (shapes s t agree r)
-      (frame_choice (change_of bits converted) leaves (row (shape_of s o)) r)
+    (frame_choice (change_of bits converted) leaves (row (shape_of s o)) r)
 
 -- All patterns of an order are of the table
 
@@ -121,6 +121,6 @@ pub choice_ren : {R L : ℕ → ℕ → Type 0} {o p : Op} (bits : ℕ) (target 
     → OneToOne R → RenNumbers R L a b → TypesAgree R s t → TableRenames bits table → RenOp R L o p → RenChoice R L (choice bits target table a s o) (choice bits target table b t p)
 choice_ren {R = R} {L = L} {o = o} {p = p} bits target table a b s t one new agree all r =
     subst (λ z. RenChoice R L (choice bits target table a s o) (if is_legal target z then Some Stays else first_choice bits (chosen bits target table) b t p (order target table (name_of p)))) (shapes s t agree r)
-      (stays_or (is_legal target (shape_of s o))
-        (subst (λ name. RenChoice R L (first_choice bits (chosen bits target table) a s o (order target table (name_of o))) (first_choice bits (chosen bits target table) b t p (order target table name))) (name_same r)
-          (first_ren bits (chosen bits target table) a b s t (order target table (name_of o)) one new agree r (ordered_renames bits target table (name_of o) all))))
+    (stays_or (is_legal target (shape_of s o))
+    (subst (λ name. RenChoice R L (first_choice bits (chosen bits target table) a s o (order target table (name_of o))) (first_choice bits (chosen bits target table) b t p (order target table name))) (name_same r)
+    (first_ren bits (chosen bits target table) a b s t (order target table (name_of o)) one new agree r (ordered_renames bits target table (name_of o) all))))

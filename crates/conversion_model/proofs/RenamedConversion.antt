@@ -1,21 +1,21 @@
 -- Renaming: the conversion of a renamed function is the renamed conversion.
-use Rattle.std.proofs.Common.{◌≡◌, ℕ, ◌+◌, ◌==◌, Bool, true, false, List, [], ◌∷◌, Option, Some, None, refl, sym, ap, ◌∙◌, subst}
-use Rattle.std.specs.Prelude.{◌&&◌, not, is_some, flat_map, Result, Ok, Err, if◌then◌else◌}
+use Rattle.std.proofs.Common.{◌≡◌, ℕ, ◌+◌, Bool, true, false, List, [], ◌∷◌, Option, Some, None, refl, ap, ◌∙◌, subst}
+use Rattle.std.specs.Prelude.{◌&&◌, not, is_some, flat_map, if◌then◌else◌}
 use Rattle.plain_tree.specs.Types.{PlainType}
-use Rattle.plain_tree.specs.Ops.{Kind, Op, op, Ops, Regions, Blocks, Values}
-use Rattle.conversion_model.specs.Templates.{Template, numbers, written}
-use Rattle.conversion_model.specs.Targets.{Shape, Target, Mode, Partial, Full, demanded, is_legal, name_of, shape_of}
+use Rattle.plain_tree.specs.Ops.{Op}
+use Rattle.conversion_model.specs.Templates.{Template}
+use Rattle.conversion_model.specs.Targets.{Shape, Mode, Partial, Full, demanded, is_legal, name_of, shape_of}
 use Rattle.conversion_model.specs.Rows.{Frame, Piece, Part}
 use Rattle.conversion_model.specs.Chosen.{chosen}
-use Rattle.conversion_model.specs.Choice.{Choice, Stays, Line, Cuts, Frames}
-use Rattle.conversion_model.specs.Items.{From, HeldBlock, Ways, held_regions, puts, text_of, whole_items, whole_regions, Begins}
-use Rattle.conversion_model.specs.Uses.{copies_left_out, operations, types_of}
+use Rattle.conversion_model.specs.Choice.{Choice}
+use Rattle.conversion_model.specs.Items.{From, HeldBlock, whole_items}
+use Rattle.conversion_model.specs.Uses.{operations, types_of}
 use Rattle.conversion_model.specs.Conversion.{Pass, Supply, Unlegalised, choice_in, conv, converted, finished, first_unlegalised, framed_blocks, framed_regions, function_by, is_source, line_by, line_of, or_fails, params_from, params_of, pieces_of, regions_of, replacements, ways, with_blocks}
-use Rattle.conversion_model.specs.Renamings.{RenAll, none_all, more_all, RenValues, none_values, more_values, RenOp, ren_op, RenRegions, regions_ended, ren_region, RenBlocks, blocks_ended, ren_block, OneToOne, TypesAgree, TableRenames, RenSupply, RenAnswer, same_failure, ren_function, ConversionRenames}
+use Rattle.conversion_model.specs.Renamings.{none_all, RenValues, none_values, more_values, RenOp, ren_op, RenRegions, regions_ended, ren_region, RenBlocks, blocks_ended, OneToOne, TypesAgree, TableRenames, RenSupply, RenAnswer, same_failure, ren_function, ConversionRenames}
 use Rattle.conversion_model.proofs.RenamedTypes.{name_same, shapes, types_agree}
 use Rattle.conversion_model.proofs.RenamedLines.{RenList, list_ended, list_more, numbers_ren, written_ren}
 use Rattle.conversion_model.proofs.RenamedChoice.{RenChoice, no_choice, ren_stays, ren_line, ren_cuts, ren_frames, choice_ren}
-use Rattle.conversion_model.proofs.RenamedItems.{RenHeld, RenHolds, holds_ended, more_holds, RenHeldRegions, held_ended, more_held, RenWay, no_way, ren_way, RenWays, held_regions_ren, puts_ren, ren_begins, regions_ren, text_ren, whole_ren}
+use Rattle.conversion_model.proofs.RenamedItems.{RenHolds, holds_ended, more_holds, RenHeldRegions, held_ended, more_held, RenWay, no_way, ren_way, RenWays, held_regions_ren, puts_ren, ren_begins, regions_ren, text_ren, whole_ren}
 use Rattle.conversion_model.proofs.RenamedUses.{RenListed, listed_ended, more_listed, left_out_ren, op_blocks_ren, operations_ren}
 use Rattle.conversion_model.proofs.RenamedReconcile.{reconciled_ren}
 
@@ -33,8 +33,8 @@ line_ren : {R L : ℕ → ℕ → Type 0} (p : Pass) (bits : ℕ) (new other : S
     → RenList R L (line_of p bits new from shape o) (line_of p bits other from shape q)
 line_ren p bits new other one supply from shape o q r =
     itself_or (is_source from.path && not (demanded p.mode p.target shape)) r
-      (itself_or (is_legal p.target shape) r
-        (line_by_ren (new.value from.number from.piece) (other.value from.number from.piece) (chosen bits p.target p.table from.path shape) one (supply.values from.number from.piece) r))
+    (itself_or (is_legal p.target shape) r
+    (line_by_ren (new.value from.number from.piece) (other.value from.number from.piece) (chosen bits p.target p.table from.path shape) one (supply.values from.number from.piece) r))
 
 choice_in_ren : {R L : ℕ → ℕ → Type 0} {o q : Op} (p : Pass) (bits : ℕ) (new other : Supply) (s t : ℕ → PlainType) (n : ℕ) → OneToOne R → TableRenames bits p.table → RenSupply R L new other → TypesAgree R s t → RenOp R L o q
     → RenChoice R L (choice_in p bits new s n o) (choice_in p bits other t n q)
@@ -74,8 +74,8 @@ framed_blocks_ren new other f entry one supply holds_ended = blocks_ended
 framed_blocks_ren {R = R} new other f entry one supply (more_holds {hs = hs} {ks = ks} h rest) =
     let params : RenValues R (params_of new f) (params_of other f) = params_ren new.parameter other.parameter supply.parameters 0 (flat_map (λ (part : Part). part.takes) f.entry) in
     (text_ren (ren_begins h.label params
-      (puts_ren (written_ren (new.value 0 0) (other.value 0 0) one (supply.values 0 0) h.args (numbers_ren params) none_all entry list_ended)
-        (h.whole (whole_items hs) (whole_items ks) (whole_ren rest))))).blocks
+    (puts_ren (written_ren (new.value 0 0) (other.value 0 0) one (supply.values 0 0) h.args (numbers_ren params) none_all entry list_ended)
+    (h.whole (whole_items hs) (whole_items ks) (whole_ren rest))))).blocks
 
 framed_regions_ren : {R L : ℕ → ℕ → Type 0} {hs ks : List (List HeldBlock)} (new other : Supply) (f : Frame) (entry : Template) → OneToOne R → RenSupply R L new other → RenHeldRegions R L hs ks
     → RenRegions R L (framed_regions new f entry hs) (framed_regions other f entry ks)
@@ -105,9 +105,9 @@ pub replacements_ren : {R L : ℕ → ℕ → Type 0} {f g : Op} (p : Pass) (bit
 replacements_ren {R = R} {f = f} {g = g} p bits new other one all supply r =
     let agree : TypesAgree R (types_of f) (types_of g) = types_agree one r in
     function_ren new other one supply r
-      (choice_if (demanded p.mode p.target (shape_of (types_of f) f)) (demanded p.mode p.target (shape_of (types_of g) g)) (ap (demanded p.mode p.target) (shapes (types_of f) (types_of g) agree r))
-        (choice_in_ren p bits new other (types_of f) (types_of g) 0 one all supply agree r))
-      (held_regions_ren (ways p bits new (types_of f)) (ways p bits other (types_of g)) (ways_ren p bits new other (types_of f) (types_of g) one all supply agree) 1 (regions_of_ren r))
+    (choice_if (demanded p.mode p.target (shape_of (types_of f) f)) (demanded p.mode p.target (shape_of (types_of g) g)) (ap (demanded p.mode p.target) (shapes (types_of f) (types_of g) agree r))
+    (choice_in_ren p bits new other (types_of f) (types_of g) 0 one all supply agree r))
+    (held_regions_ren (ways p bits new (types_of f)) (ways p bits other (types_of g)) (ways_ren p bits new other (types_of f) (types_of g) one all supply agree) 1 (regions_of_ren r))
 
 with_blocks_ren : {R L : ℕ → ℕ → Type 0} {f g : Op} (b : Bool) (bits : ℕ) (new other : Supply) → RenSupply R L new other → RenOp R L f g → RenOp R L (with_blocks b bits new f) (with_blocks b bits other g)
 with_blocks_ren true bits new other supply r = op_blocks_ren bits new.argument other.argument supply.arguments r
@@ -150,5 +150,5 @@ answer_ren (Some e) r = same_failure
 pub conversion_renames : ConversionRenames
 conversion_renames R L p bits new other f g one labels all supply r =
     subst (λ e. RenAnswer R L (conv p bits new f) (or_fails (converted p bits other g) e))
-      (failures_same p bits new other (types_of f) (types_of g) one all supply (types_agree one r) (operations_ren r))
-      (answer_ren (first_unlegalised p bits new (types_of f) (operations f)) (converted_ren p bits new other one all supply r))
+    (failures_same p bits new other (types_of f) (types_of g) one all supply (types_agree one r) (operations_ren r))
+    (answer_ren (first_unlegalised p bits new (types_of f) (operations f)) (converted_ren p bits new other one all supply r))

@@ -1,13 +1,11 @@
 -- Renaming: the items of a tree, and regions made of them.
-use Rattle.std.proofs.Common.{◌≡◌, ℕ, ◌+◌, ◌==◌, Bool, true, false, List, [], ◌∷◌, Option, Some, None, refl, sym, ap, ◌∙◌, subst}
+use Rattle.std.proofs.Common.{◌≡◌, ℕ, ◌+◌, ◌==◌, Bool, true, false, List, [], ◌∷◌, Option, Some, None, ap, subst}
 use Rattle.std.specs.Prelude.{◌&&◌, pred, if◌then◌else◌}
-use Rattle.plain_tree.specs.Types.{PlainType}
-use Rattle.plain_tree.specs.Ops.{Kind, Op, op, Ops, end_of_ops, more_ops, Regions, end_of_regions, region, Blocks, end_of_blocks, block, Values}
-use Rattle.conversion_model.specs.Templates.{copy}
+use Rattle.plain_tree.specs.Ops.{Op, op, Ops, Regions, Blocks, Values}
 use Rattle.conversion_model.specs.Targets.{Shape, goes_with_holder, name_of, shape_with}
-use Rattle.conversion_model.specs.Rows.{Piece, Product, Opens, Held, Stands}
+use Rattle.conversion_model.specs.Rows.{Piece}
 use Rattle.conversion_model.specs.Items.{From, HeldBlock, Item, Puts, Begins, Text, Ways, blocks_size, cut, held_at, held_blocks, held_in, held_regions, items, op_at, op_items, op_size, ops_size, puts, text_of, whole_items, whole_regions}
-use Rattle.conversion_model.specs.Renamings.{RenAll, none_all, more_all, RenValues, none_values, more_values, RenOp, ren_op, RenOps, ops_ended, ren_more, RenRegions, regions_ended, ren_region, RenBlocks, blocks_ended, ren_block, RenPieces, pieces_ended, ren_product, ren_opens, ren_held, ren_stands}
+use Rattle.conversion_model.specs.Renamings.{none_all, more_all, RenValues, none_values, more_values, RenOp, ren_op, RenOps, ops_ended, ren_more, RenRegions, regions_ended, ren_region, RenBlocks, blocks_ended, ren_block, RenPieces, pieces_ended, ren_product, ren_opens, ren_held, ren_stands}
 use Rattle.conversion_model.proofs.RenamedTypes.{blocks_sizes, name_same, op_sizes, ops_sizes, shape_same}
 use Rattle.conversion_model.proofs.RenamedLines.{RenList, list_ended, list_more}
 
@@ -64,8 +62,8 @@ cut_ren : {R L : ℕ → ℕ → Type 0} {hs ks : List (List HeldBlock)} {ps qs 
 cut_ren v w n place k ways hs pieces_ended more = more
 cut_ren {R = R} {L = L} v w n place k ways hs (ren_product {o = o} {p = p} {types = types} r rest) more =
     puts_ren (subst (λ s. RenList R L (v.line (record { number = n; piece = k; path = place ∷ [] }) (shape_with types o) o) (w.line (record { number = n; piece = k; path = place ∷ [] }) s p)) (shape_same types r)
-        (ways.line (record { number = n; piece = k; path = place ∷ [] }) (shape_with types o) o p r))
-      (cut_ren v w n place (k + 1) ways hs rest more)
+    (ways.line (record { number = n; piece = k; path = place ∷ [] }) (shape_with types o) o p r))
+    (cut_ren v w n place (k + 1) ways hs rest more)
 cut_ren v w n place k ways hs (ren_opens l vs rest) more = ren_begins l vs (cut_ren v w n place (k + 1) ways hs rest more)
 cut_ren v w n place k ways hs (ren_held {r = r} {b = b} rest) more = held_at_ren r b hs (cut_ren v w n place (k + 1) ways hs rest more)
 cut_ren v w n place k ways hs (ren_stands r value rest) more =
@@ -96,7 +94,7 @@ op_at_ren : {R L : ℕ → ℕ → Type 0} {o p kept other : Op} {c d : Option (
     → RenWays R L v w → RenOp R L o p → RenOp R L kept other → RenWay R L c d → RenHeldRegions R L hs ks → RenItems R L xs ys → RenItems R L (op_at v n o kept c hs xs) (op_at w n p other d ks ys)
 op_at_ren {R = R} {L = L} {o = o} {p = p} {kept = kept} {other = other} v w n ways r keeps no_way hs more =
     puts_ren (subst (λ s. RenList R L (v.line (record { number = n; piece = 0; path = [] }) (v.shape o) kept) (w.line (record { number = n; piece = 0; path = [] }) s other)) (ways.shape o p r)
-      (ways.line (record { number = n; piece = 0; path = [] }) (v.shape o) kept other keeps)) more
+    (ways.line (record { number = n; piece = 0; path = [] }) (v.shape o) kept other keeps)) more
 op_at_ren v w n ways r keeps (ren_way {place = place} ps) hs more = cut_ren v w n place 1 ways hs ps more
 
 stops_or : {R L : ℕ → ℕ → Type 0} {x y z w : List Item} (b c : Bool) → b ≡ c → RenItems R L x z → RenItems R L y w → RenItems R L (if b then x else y) (if c then z else w)
@@ -107,23 +105,23 @@ mutual
   items_ren v w ways held n ops_ended xs ys more = more
   items_ren {R = R} {L = L} v w ways held n (ren_more {o = o} {p = p} {os = os} {ps = ps} r rest) xs ys more =
       stops_or (held && goes_with_holder (name_of o)) (held && goes_with_holder (name_of p)) (ap (λ name. held && goes_with_holder name) (name_same r)) more
-        (op_items_ren v w ways n r (items v held (n + op_size o) os xs) (items w held (n + op_size p) ps ys)
-          (subst (λ k. RenItems R L (items v held (n + op_size o) os xs) (items w held (n + k) ps ys)) (op_sizes r) (items_ren v w ways held (n + op_size o) rest xs ys more)))
+      (op_items_ren v w ways n r (items v held (n + op_size o) os xs) (items w held (n + op_size p) ps ys)
+      (subst (λ k. RenItems R L (items v held (n + op_size o) os xs) (items w held (n + k) ps ys)) (op_sizes r) (items_ren v w ways held (n + op_size o) rest xs ys more)))
 
   pub op_items_ren : {R L : ℕ → ℕ → Type 0} {o p : Op} (v w : Ways) → RenWays R L v w → (n : ℕ) → RenOp R L o p → InFront R L (op_items v n o) (op_items w n p)
   op_items_ren {R = R} {L = L} v w ways n (ren_op {k = k} {rs = rs} {ss = ss} {os = os} {ps = ps} {r = r} {s = s} {ls = ls} {ms = ms} vs uses regions labels) xs ys more =
       let hs : RenHeldRegions R L (held_regions v (n + 1) r) (held_regions w (n + 1) s) = held_regions_ren v w ways (n + 1) regions in
       op_at_ren v w n ways (ren_op {k = k} vs uses regions labels) (ren_op {k = k} vs uses (regions_ren hs) labels)
-        (ways.cuts n (op k rs os r ls) (op k ss ps s ms) (ren_op vs uses regions labels)) hs more
+      (ways.cuts n (op k rs os r ls) (op k ss ps s ms) (ren_op vs uses regions labels)) hs more
 
   pub held_regions_ren : {R L : ℕ → ℕ → Type 0} {r s : Regions} (v w : Ways) → RenWays R L v w → (n : ℕ) → RenRegions R L r s → RenHeldRegions R L (held_regions v n r) (held_regions w n s)
   held_regions_ren v w ways n regions_ended = held_ended
   held_regions_ren {R = R} {L = L} v w ways n (ren_region {b = b} {c = c} {r = r} {s = s} blocks rest) =
       more_held (held_blocks_ren v w ways n blocks)
-        (subst (λ k. RenHeldRegions R L (held_regions v (n + blocks_size b) r) (held_regions w (n + k) s)) (blocks_sizes blocks) (held_regions_ren v w ways (n + blocks_size b) rest))
+      (subst (λ k. RenHeldRegions R L (held_regions v (n + blocks_size b) r) (held_regions w (n + k) s)) (blocks_sizes blocks) (held_regions_ren v w ways (n + blocks_size b) rest))
 
   pub held_blocks_ren : {R L : ℕ → ℕ → Type 0} {b c : Blocks} (v w : Ways) → RenWays R L v w → (n : ℕ) → RenBlocks R L b c → RenHolds R L (held_blocks v n b) (held_blocks w n c)
   held_blocks_ren v w ways n blocks_ended = holds_ended
   held_blocks_ren {R = R} {L = L} v w ways n (ren_block {os = os} {ps = ps} {b = b} {c = c} l vs ops rest) =
       more_holds (record { label = l; args = vs; held = items_ren v w ways true n ops; whole = items_ren v w ways false n ops })
-        (subst (λ k. RenHolds R L (held_blocks v (n + ops_size os) b) (held_blocks w (n + k) c)) (ops_sizes ops) (held_blocks_ren v w ways (n + ops_size os) rest))
+      (subst (λ k. RenHolds R L (held_blocks v (n + ops_size os) b) (held_blocks w (n + k) c)) (ops_sizes ops) (held_blocks_ren v w ways (n + ops_size os) rest))

@@ -1,11 +1,11 @@
 -- Renaming: the operations of a template that is written down.
-use Rattle.std.proofs.Common.{◌≡◌, ℕ, zero, suc, ◌+◌, ◌==◌, Bool, true, false, List, [], ◌∷◌, refl, sym, ap, ◌∙◌, subst, length, map}
+use Rattle.std.proofs.Common.{◌≡◌, ℕ, zero, suc, ◌+◌, ◌==◌, Bool, true, false, List, [], ◌∷◌, refl, subst, length, map}
 use Rattle.std.specs.Prelude.{get_or, pred, if◌then◌else◌}
 use Rattle.plain_tree.specs.Types.{PlainType}
-use Rattle.plain_tree.specs.Ops.{Kind, Op, op, Values}
+use Rattle.plain_tree.specs.Ops.{Op, Values}
 use Rattle.conversion_model.specs.declared.templates.Source.{Source}
 use Rattle.conversion_model.specs.declared.templates.Source.TheVariants.{Operand, Made}
-use Rattle.conversion_model.specs.Templates.{Step, Template, copies, copy, label_at, labels_at, named, number_of, numbers, step_op, steps_written, values_made, written}
+use Rattle.conversion_model.specs.Templates.{Step, Template, copies, copy, label_at, labels_at, named, number_of, numbers, steps_written, values_made, written}
 use Rattle.conversion_model.specs.Renamings.{RenAll, none_all, more_all, RenValues, none_values, more_values, RenOp, ren_op, regions_ended, OneToOne}
 
 -- operations in order that go together
@@ -66,10 +66,10 @@ copies_ren {R = R} {L = L} {os = os} {ps = ps} {xs = xs} {ys = ys} f g one new u
     let value : R (number_of f os s) (number_of g ps s) = number_ren f g new uses s in
     let behind : RenList R L (copies f os rs sources xs) (copies g ps ss sources ys) = copies_ren f g one new uses rest sources more in
     either_way (RenList R L) (number_of f os s == a) (number_of g ps s == b)
-      (copies f os rs sources xs) (copy (a, t) (number_of f os s) ∷ copies f os rs sources xs)
-      (copies g ps ss sources ys) (copy (b, t) (number_of g ps s) ∷ copies g ps ss sources ys)
-      (one (number_of f os s) (number_of g ps s) a b value r) behind
-      (list_more (ren_op (more_values r none_values) (more_all value none_all) regions_ended none_all) behind)
+    (copies f os rs sources xs) (copy (a, t) (number_of f os s) ∷ copies f os rs sources xs)
+    (copies g ps ss sources ys) (copy (b, t) (number_of g ps s) ∷ copies g ps ss sources ys)
+    (one (number_of f os s) (number_of g ps s) a b value r) behind
+    (list_more (ren_op (more_values r none_values) (more_all value none_all) regions_ended none_all) behind)
 
 pub steps_ren : {R L : ℕ → ℕ → Type 0} {os ps ls ms : List ℕ} {xs ys : List Op} (f g : ℕ → ℕ) → ((k : ℕ) → R (f k) (g k)) → RenAll R os ps → RenAll L ls ms → (n : ℕ) (steps : List Step)
     → RenList R L xs ys → RenList R L (steps_written f os ls n steps xs) (steps_written g ps ms n steps ys)

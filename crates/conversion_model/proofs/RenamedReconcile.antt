@@ -1,15 +1,15 @@
 -- Renaming: reconciliation.
-use Rattle.std.proofs.Common.{◌≡◌, ℕ, zero, suc, ◌+◌, ◌==◌, Bool, true, false, List, [], ◌∷◌, ◌++◌, Option, Some, None, refl, sym, ap, ◌∙◌, subst, length, map}
+use Rattle.std.proofs.Common.{◌≡◌, ℕ, zero, suc, ◌==◌, Bool, true, false, List, [], ◌∷◌, ◌++◌, Option, Some, None, refl, sym, ap, ◌∙◌, subst, length}
 use Rattle.std.specs.Prelude.{◌||◌, ◌&&◌, not, codes, if◌then◌else◌}
 use Rattle.std.specs.List.{list_any}
 use Rattle.std.specs.Str.{bytes_eq}
 use Rattle.plain_tree.specs.Types.{PlainType, same_type}
-use Rattle.plain_tree.specs.Ops.{Kind, Op, op, Values}
-use Rattle.conversion_model.specs.Targets.{name_of, operands_of}
-use Rattle.conversion_model.specs.Uses.{operations, op_uses, op_without, replaced, types_of}
-use Rattle.conversion_model.specs.Reconciled.{Cast, cast_in, casts_in, first_pair, is_cast, is_cast_of, is_unused_cast, is_used, pair_of, pair_or, pairs_left_out, reconciled, results_of, stands_for, undoes, unused_left_out, without_pair}
+use Rattle.plain_tree.specs.Ops.{Op, op, Values}
+use Rattle.conversion_model.specs.Targets.{operands_of}
+use Rattle.conversion_model.specs.Uses.{operations, replaced, types_of}
+use Rattle.conversion_model.specs.Reconciled.{Cast, cast_in, casts_in, first_pair, is_cast_of, is_unused_cast, is_used, pair_of, pair_or, pairs_left_out, reconciled, stands_for, undoes, unused_left_out, without_pair}
 use Rattle.conversion_model.specs.Renamings.{RenAll, none_all, more_all, RenValues, none_values, more_values, RenOp, ren_op, OneToOne, TypesAgree}
-use Rattle.conversion_model.proofs.RenamedTypes.{name_same, operands_ren, op_sizes, types_agree}
+use Rattle.conversion_model.proofs.RenamedTypes.{operands_ren, op_sizes, types_agree}
 use Rattle.conversion_model.proofs.RenamedUses.{RenListed, listed_ended, more_listed, op_uses_ren, op_without_ren, operations_ren, replaced_ren, TestsAgree}
 use Rattle.conversion_model.proofs.ReconcileLaws.{listed_size}
 
@@ -45,9 +45,9 @@ both_same a b c d e f p q r = ap (λ x. x && (c && not e)) p ∙ ap (λ x. b && 
 undoes_same : {R : ℕ → ℕ → Type 0} (c c' d d' : Cast) → OneToOne R → RenCast R c c' → RenCast R d d' → undoes c d ≡ undoes c' d'
 undoes_same c c' d d' one r s =
     both_same (d.result == c.operand) (d'.result == c'.operand) (same_type d.from c.to) (same_type d'.from c'.to) (d.operand == c.result) (d'.operand == c'.result)
-      (one d.result d'.result c.operand c'.operand s.result r.operand)
-      (ap (λ t. same_type t c.to) s.from ∙ ap (λ t. same_type d'.from t) r.to)
-      (one d.operand d'.operand c.result c'.result s.operand r.result)
+    (one d.result d'.result c.operand c'.operand s.result r.operand)
+    (ap (λ t. same_type t c.to) s.from ∙ ap (λ t. same_type d'.from t) r.to)
+    (one d.operand d'.operand c.result c'.result s.operand r.result)
 
 pub data RenMaybe (R : ℕ → ℕ → Type 0) : Option ℕ → Option ℕ → Type 0 where
   no_value : RenMaybe R None None
@@ -137,11 +137,11 @@ unused_ren zero one r = r
 unused_ren (suc room) {f = f} {g = g} one r =
     let all = operations_ren r in
     unused_by (list_any (λ o. is_unused_cast (operations f) o.1) (operations f)) (list_any (λ o. is_unused_cast (operations g) o.1) (operations g))
-      (any_same (is_unused_cast (operations f)) (is_unused_cast (operations g)) (unused_same one all) all) r
-      (unused_ren room one (op_without_ren (is_unused_cast (operations f)) (is_unused_cast (operations g)) (unused_same one all) r))
+    (any_same (is_unused_cast (operations f)) (is_unused_cast (operations g)) (unused_same one all) all) r
+    (unused_ren room one (op_without_ren (is_unused_cast (operations f)) (is_unused_cast (operations g)) (unused_same one all) r))
 
 -- functions that go together go together when they are reconciled
 pub reconciled_ren : {R L : ℕ → ℕ → Type 0} {f g : Op} → OneToOne R → RenOp R L f g → RenOp R L (reconciled f) (reconciled g)
 reconciled_ren {R = R} {L = L} {f = f} {g = g} one r =
     subst (λ n. RenOp R L (reconciled f) (unused_left_out n (pairs_left_out n g))) (listed_size f ∙ op_sizes r ∙ sym (listed_size g))
-      (unused_ren (length (operations f)) one (pairs_ren (length (operations f)) one r))
+    (unused_ren (length (operations f)) one (pairs_ren (length (operations f)) one r))

@@ -1,9 +1,9 @@
 -- Renaming: types, shapes and sizes are the same.
-use Rattle.std.proofs.Common.{◌≡◌, ℕ, suc, ◌+◌, ◌==◌, Bool, true, false, List, [], ◌∷◌, ◌++◌, refl, sym, ap, ◌∙◌, length, map}
+use Rattle.std.proofs.Common.{◌≡◌, ℕ, suc, ◌+◌, ◌==◌, List, ◌∷◌, ◌++◌, refl, ap, ◌∙◌, length, map}
 use Rattle.std.specs.Prelude.{if◌then◌else◌}
 use Rattle.plain_tree.specs.Types.{PlainType}
-use Rattle.plain_tree.specs.Ops.{Kind, Op, op, Ops, Regions, Blocks, Values}
-use Rattle.conversion_model.specs.Targets.{Shape, name_of, operands_of, region_count, shape_of, shape_with}
+use Rattle.plain_tree.specs.Ops.{Op, Ops, Regions, Blocks, Values}
+use Rattle.conversion_model.specs.Targets.{name_of, operands_of, region_count, shape_of, shape_with}
 use Rattle.conversion_model.specs.Items.{op_size, ops_size, regions_size, blocks_size}
 use Rattle.conversion_model.specs.Uses.{op_values, ops_values, regions_values, blocks_values, type_in, types_of}
 use Rattle.conversion_model.specs.Renamings.{RenAll, none_all, more_all, RenValues, none_values, more_values, RenOp, ren_op, RenOps, ops_ended, ren_more, RenRegions, regions_ended, ren_region, RenBlocks, blocks_ended, ren_block, OneToOne, TypesAgree}

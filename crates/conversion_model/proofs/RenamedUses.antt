@@ -1,14 +1,13 @@
 -- Renaming: copies left out, and block arguments converted.
-use Rattle.std.proofs.Common.{◌≡◌, ℕ, ◌+◌, ◌==◌, Bool, true, false, List, [], ◌∷◌, ◌++◌, Option, Some, None, refl, sym, ap, ◌∙◌, subst, map}
-use Rattle.std.specs.Prelude.{◌&&◌, if◌then◌else◌}
+use Rattle.std.proofs.Common.{◌≡◌, ℕ, ◌+◌, ◌==◌, Bool, true, false, List, [], ◌∷◌, ◌++◌, Option, Some, None, ap, subst, map}
 use Rattle.std.specs.Str.{bytes_eq}
 use Rattle.plain_tree.specs.Types.{PlainType}
-use Rattle.plain_tree.specs.Ops.{Kind, Op, op, Ops, end_of_ops, more_ops, Regions, Blocks, Values}
+use Rattle.plain_tree.specs.Ops.{Op, Ops, more_ops, Regions, Blocks, Values}
 use Rattle.conversion_model.specs.Types.{new_type}
 use Rattle.conversion_model.specs.Templates.{copy_name}
 use Rattle.conversion_model.specs.Items.{op_size, ops_size, blocks_size}
 use Rattle.conversion_model.specs.Uses.{blocks_listed, copies_in, copies_left_out, followed, is_copy, op_listed, operations, ops_listed, op_uses, ops_uses, regions_uses, blocks_uses, op_without, ops_without, regions_without, blocks_without, pair_in, regions_listed, replaced}
-use Rattle.conversion_model.specs.Conversion.{blocks_blocks, cast_back, cast_op, casts_back, new_argument, new_arguments, op_blocks, ops_blocks, regions_blocks}
+use Rattle.conversion_model.specs.Conversion.{blocks_blocks, cast_back, casts_back, new_argument, new_arguments, op_blocks, ops_blocks, regions_blocks}
 use Rattle.conversion_model.specs.Renamings.{RenAll, none_all, more_all, RenValues, none_values, more_values, RenOp, ren_op, RenOps, ops_ended, ren_more, RenRegions, regions_ended, ren_region, RenBlocks, blocks_ended, ren_block, OneToOne}
 use Rattle.conversion_model.proofs.RenamedTypes.{blocks_sizes, name_same, op_sizes, ops_sizes}
 use Rattle.conversion_model.proofs.RenamedLines.{either_way}
@@ -49,7 +48,7 @@ mutual
   ops_without_ren s t agree ops_ended = ops_ended
   ops_without_ren {R = R} {L = L} s t agree (ren_more {o = o} {p = p} {os = os} {ps = ps} r rest) =
       either_way (RenOps R L) (s o) (t p) (ops_without s os) (more_ops (op_without s o) (ops_without s os)) (ops_without t ps) (more_ops (op_without t p) (ops_without t ps)) (agree o p r)
-        (ops_without_ren s t agree rest) (ren_more (op_without_ren s t agree r) (ops_without_ren s t agree rest))
+      (ops_without_ren s t agree rest) (ren_more (op_without_ren s t agree r) (ops_without_ren s t agree rest))
 
   pub regions_without_ren : {R L : ℕ → ℕ → Type 0} {o p : Regions} (s t : Op → Bool) → TestsAgree R L s t → RenRegions R L o p → RenRegions R L (regions_without s o) (regions_without t p)
   regions_without_ren s t agree regions_ended = regions_ended
@@ -103,7 +102,7 @@ pub copies_ren : {R L : ℕ → ℕ → Type 0} {os ps : List (ℕ × Op)} → R
 copies_ren listed_ended = pairs_ended
 copies_ren {R = R} {L = L} (more_listed {o = o} {p = p} {os = os} {ps = ps} r rest) =
     either_way (RenPairs R) (is_copy o) (is_copy p) (pair_in o ++ copies_in os) (copies_in os) (pair_in p ++ copies_in ps) (copies_in ps) (ap (λ name. bytes_eq name copy_name) (name_same r))
-      (pair_joined r (copies_ren rest)) (copies_ren rest)
+    (pair_joined r (copies_ren rest)) (copies_ren rest)
 
 pub replaced_ren : {R : ℕ → ℕ → Type 0} {a b c d : ℕ} → OneToOne R → R a b → R c d → Along R (replaced a c) (replaced b d)
 replaced_ren {R = R} {a = a} {b = b} {c = c} {d = d} one from to m n r = either_way R (m == a) (n == b) c m d n (one m n a b r from) to r
@@ -112,7 +111,7 @@ pub followed_ren : {R : ℕ → ℕ → Type 0} {cs ds : List (ℕ × ℕ)} (f g
 followed_ren f g one pairs_ended along m n r = r
 followed_ren f g one (more_pairs {a = a} {b = b} {c = c} {d = d} from to rest) along m n r =
     followed_ren (λ v. replaced a (f c) (f v)) (λ v. replaced b (g d) (g v)) one rest
-      (λ i j s. replaced_ren one from (along c d to) (f i) (g j) (along i j s)) (replaced a (f c) m) (replaced b (g d) n) (replaced_ren one from (along c d to) m n r)
+    (λ i j s. replaced_ren one from (along c d to) (f i) (g j) (along i j s)) (replaced a (f c) m) (replaced b (g d) n) (replaced_ren one from (along c d to) m n r)
 
 pub left_out_ren : {R L : ℕ → ℕ → Type 0} {f g : Op} → OneToOne R → RenOp R L f g → RenOp R L (copies_left_out f) (copies_left_out g)
 left_out_ren one r =

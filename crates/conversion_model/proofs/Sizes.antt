@@ -1,8 +1,8 @@
 -- How many operations a tree has: what is left out makes it smaller, and other operands leave it as it is.
-use Rattle.std.proofs.Common.{◌≡◌, ℕ, suc, ◌+◌, ◌≤◌, Bool, true, false, List, [], ◌∷◌, refl, sym, ap, ◌∙◌, length, arith, true≢false}
+use Rattle.std.proofs.Common.{◌≡◌, ℕ, suc, ◌+◌, ◌≤◌, Bool, true, false, List, refl, sym, ap, ◌∙◌, length, arith, true≢false}
 use Rattle.std.specs.Prelude.{◌||◌, if◌then◌else◌}
 use Rattle.std.specs.List.{list_any}
-use Rattle.plain_tree.specs.Ops.{Kind, Op, op, Ops, end_of_ops, more_ops, Regions, end_of_regions, region, Blocks, end_of_blocks, block, Values}
+use Rattle.plain_tree.specs.Ops.{Op, op, Ops, end_of_ops, more_ops, Regions, end_of_regions, region, Blocks, end_of_blocks, block}
 use Rattle.conversion_model.specs.Items.{op_size, ops_size, regions_size, blocks_size}
 use Rattle.conversion_model.specs.Uses.{op_listed, ops_listed, regions_listed, blocks_listed, op_uses, ops_uses, regions_uses, blocks_uses, op_without, ops_without, regions_without, blocks_without}
 
@@ -135,20 +135,20 @@ mutual
   ops_fewer test end_of_ops is = absurd (true≢false (sym is))
   ops_fewer test (more_ops o os) is =
       fewer_ops o (op_without test o) os (ops_without test os) (test o) (op_less test o) (ops_less test os) (λ not_here.
-        either (op_inside test o) (ops_any test os) (sym (ap (λ b. b || (op_inside test o || ops_any test os)) not_here) ∙ is)
-          (λ inside. omega (arith, op_fewer test o inside, ops_less test os))
-          (λ behind. omega (arith, op_less test o, ops_fewer test os behind)))
+      either (op_inside test o) (ops_any test os) (sym (ap (λ b. b || (op_inside test o || ops_any test os)) not_here) ∙ is)
+      (λ inside. omega (arith, op_fewer test o inside, ops_less test os))
+      (λ behind. omega (arith, op_less test o, ops_fewer test os behind)))
 
   pub regions_fewer : (test : Op → Bool) (rs : Regions) → regions_any test rs ≡ true → suc (regions_size (regions_without test rs)) ≤ regions_size rs
   regions_fewer test end_of_regions is = absurd (true≢false (sym is))
   regions_fewer test (region blocks more) is =
       either (blocks_any test blocks) (regions_any test more) is
-        (λ here. omega (arith, blocks_fewer test blocks here, regions_less test more))
-        (λ behind. omega (arith, blocks_less test blocks, regions_fewer test more behind))
+      (λ here. omega (arith, blocks_fewer test blocks here, regions_less test more))
+      (λ behind. omega (arith, blocks_less test blocks, regions_fewer test more behind))
 
   pub blocks_fewer : (test : Op → Bool) (bs : Blocks) → blocks_any test bs ≡ true → suc (blocks_size (blocks_without test bs)) ≤ blocks_size bs
   blocks_fewer test end_of_blocks is = absurd (true≢false (sym is))
   blocks_fewer test (block label args ops more) is =
       either (ops_any test ops) (blocks_any test more) is
-        (λ here. omega (arith, ops_fewer test ops here, blocks_less test more))
-        (λ behind. omega (arith, ops_less test ops, blocks_fewer test more behind))
+      (λ here. omega (arith, ops_fewer test ops here, blocks_less test more))
+      (λ behind. omega (arith, ops_less test ops, blocks_fewer test more behind))

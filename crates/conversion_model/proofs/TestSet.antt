@@ -1,16 +1,14 @@
 -- A small set of patterns and functions, over which the definitions are shown by examples.
-use Rattle.std.specs.Prelude.{ℕ, ◌+◌, ◌*◌, Bool, true, false, List, [], ◌∷◌, ◌++◌, map, Option, Some, None, codes, if◌then◌else◌}
+use Rattle.std.specs.Prelude.{ℕ, ◌+◌, ◌*◌, false, List, [], ◌∷◌, Some, codes, if◌then◌else◌}
 use Rattle.std.specs.Str.{bytes_eq}
-use Rattle.plain_tree.specs.Types.{PlainType, Int, Index}
-use Rattle.plain_tree.specs.Attrs.{Entries, PlainAttr}
-use Rattle.plain_tree.specs.Attrs as attr
-use Rattle.plain_tree.specs.Ops.{Kind, Op, op, Ops, ops_in, Regions, end_of_regions, region, Blocks, end_of_blocks, block, Values}
+use Rattle.plain_tree.specs.Types.{PlainType, Int}
+use Rattle.plain_tree.specs.Ops.{Op, op, ops_in, end_of_regions, region, end_of_blocks, block, Values}
 use Rattle.conversion_model.specs.declared.templates.Source.{Source}
-use Rattle.conversion_model.specs.declared.templates.Source.TheVariants.{Operand, Made}
-use Rattle.conversion_model.specs.Templates.{Step, Template}
-use Rattle.conversion_model.specs.Targets.{Shape, Target, Legality, Legal, Dynamic, Illegal, Unknown, HasAttr, Mode, Partial, Full}
-use Rattle.conversion_model.specs.Rows.{Pattern, Straight, Numbers}
-use Rattle.conversion_model.specs.Conversion.{Pass, Supply}
+use Rattle.conversion_model.specs.declared.templates.Source.TheVariants.{Made}
+use Rattle.conversion_model.specs.Templates.{Template}
+use Rattle.conversion_model.specs.Targets.{Shape, Target, Legality, Legal, Dynamic, Illegal, Unknown, HasAttr}
+use Rattle.conversion_model.specs.Rows.{Pattern, Straight}
+use Rattle.conversion_model.specs.Conversion.{Supply}
 
 -- a template of one operation on all operands of an operation with so many, which makes one value of that type
 abbrev pub one_op : List ℕ → List Source → PlainType → Template

@@ -1,9 +1,9 @@
 -- Laws of the type table.
-use Rattle.std.proofs.Common.{◌≡◌, ℕ, ◌==◌, Bool, true, false, List, [], ◌∷◌, Option, Some, None, refl, sym, ap, ◌∙◌, true≢false, ◌↔◌}
+use Rattle.std.proofs.Common.{◌≡◌, ℕ, ◌==◌, Bool, true, false, [], ◌∷◌, Option, Some, None, refl, sym, ap, ◌∙◌, true≢false, ◌↔◌}
 use Rattle.std.specs.Prelude.{length, if◌then◌else◌}
 use Rattle.std.specs.Bool.{IsTrue}
 use Rattle.plain_tree.specs.Types.{PlainType, Int, Index, Memref, Func, Ptr, Void, Struct, Array, LlvmFunc, types_in}
-use Rattle.conversion_model.specs.Types.{all_own, is_own, new_type, converted_type, descriptor, number_type}
+use Rattle.conversion_model.specs.Types.{all_own, is_own, new_type, number_type}
 use Rattle.conversion_model.specs.Promises.{OwnTypes, ConvertedIsOwn}
 
 abbrev is_index : Option PlainType → Bool

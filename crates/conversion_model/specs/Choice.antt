@@ -1,14 +1,13 @@
 -- The choice for a source operation: what replaces it.
-use Rattle.std.specs.Prelude.{ℕ, ◌+◌, Bool, List, [], ◌∷◌, ◌++◌, length, map, Option, Some, None, is_some, ◌&&◌, true, if◌then◌else◌}
+use Rattle.std.specs.Prelude.{ℕ, ◌+◌, Bool, List, [], ◌∷◌, length, map, Option, Some, None, is_some, ◌&&◌, true, if◌then◌else◌}
 use Rattle.plain_tree.specs.Types.{PlainType}
-use Rattle.plain_tree.specs.Attrs.{Entries}
-use Rattle.plain_tree.specs.Ops.{Op, op, Values, Regions, region, Blocks, block}
+use Rattle.plain_tree.specs.Ops.{Op, op, Values, region, block}
 use Rattle.conversion_model.specs.declared.templates.Source.{Source}
 use Rattle.conversion_model.specs.declared.templates.Source.TheVariants.{Operand, Made}
-use Rattle.conversion_model.specs.Templates.{Step, Template}
+use Rattle.conversion_model.specs.Templates.{Template}
 use Rattle.conversion_model.specs.Targets.{Shape, Target, is_legal, name_of, shape_of, shape_with}
 use Rattle.conversion_model.specs.Rows.{Row, Straight, Cutting, Framing, Pattern, Numbers, Piece, Product, Opens, Held, Stands, Frame, Part}
-use Rattle.conversion_model.specs.Chosen.{State, Ending, Leaves, Ranked, and_then, or_else, products, here, give_one, change_of, by_row, order, chosen, cast, with_step, with_result}
+use Rattle.conversion_model.specs.Chosen.{State, Leaves, Ranked, and_then, or_else, products, here, change_of, by_row, order, chosen, cast, with_step, with_result}
 
 -- what replaces a source operation: nothing, operations one after another, the pieces of a pattern at that place, a
 -- frame whose first block begins by that template

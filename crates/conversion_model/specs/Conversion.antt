@@ -1,15 +1,14 @@
 -- The conversion of one function.
-use Rattle.std.specs.Prelude.{ℕ, ◌+◌, Bool, true, false, not, ◌&&◌, List, [], ◌∷◌, ◌++◌, map, flat_map, Option, Some, None, is_some, Result, Ok, Err, if◌then◌else◌, codes}
+use Rattle.std.specs.Prelude.{ℕ, ◌+◌, Bool, true, false, not, ◌&&◌, List, [], ◌∷◌, flat_map, Option, Some, None, is_some, Result, Ok, Err, if◌then◌else◌, codes}
 use Rattle.plain_tree.specs.Types.{PlainType}
-use Rattle.plain_tree.specs.Attrs.{Entries}
-use Rattle.plain_tree.specs.Ops.{Kind, Op, op, Ops, end_of_ops, more_ops, ops_in, Regions, end_of_regions, region, Blocks, end_of_blocks, block, Values}
+use Rattle.plain_tree.specs.Ops.{Op, op, Ops, end_of_ops, more_ops, Regions, end_of_regions, region, Blocks, end_of_blocks, block, Values}
 use Rattle.conversion_model.specs.Types.{new_type}
 use Rattle.conversion_model.specs.Templates.{Template, numbers, written}
 use Rattle.conversion_model.specs.Targets.{Shape, Target, Mode, Partial, Full, demanded, is_legal, name_of, shape_of}
-use Rattle.conversion_model.specs.Rows.{Numbers, Piece, Pattern, Frame, Part}
+use Rattle.conversion_model.specs.Rows.{Numbers, Piece, Pattern, Frame}
 use Rattle.conversion_model.specs.Chosen.{chosen}
-use Rattle.conversion_model.specs.Choice.{Choice, Stays, Line, Cuts, Frames, choice}
-use Rattle.conversion_model.specs.Items.{From, Ways, Item, Begins, HeldBlock, held_regions, puts, text_of, whole_items, whole_regions}
+use Rattle.conversion_model.specs.Choice.{Choice, Cuts, Frames, choice}
+use Rattle.conversion_model.specs.Items.{From, Ways, Begins, HeldBlock, held_regions, puts, text_of, whole_items, whole_regions}
 use Rattle.conversion_model.specs.Uses.{copies_left_out, operations, types_of}
 use Rattle.conversion_model.specs.Reconciled.{reconciled}
 

@@ -1,7 +1,6 @@
 -- Items: the conversion of a tree, operation by operation. A region is made of them afterwards.
 use Rattle.std.specs.Prelude.{ℕ, pred, ◌+◌, ◌==◌, Bool, true, false, ◌&&◌, List, [], ◌∷◌, Option, Some, None, if◌then◌else◌}
-use Rattle.plain_tree.specs.Types.{PlainType}
-use Rattle.plain_tree.specs.Ops.{Kind, Op, op, Ops, end_of_ops, more_ops, Regions, end_of_regions, region, Blocks, end_of_blocks, block, Values}
+use Rattle.plain_tree.specs.Ops.{Op, op, Ops, end_of_ops, more_ops, Regions, end_of_regions, region, Blocks, end_of_blocks, block, Values}
 use Rattle.conversion_model.specs.Templates.{copy}
 use Rattle.conversion_model.specs.Targets.{Shape, shape_with, name_of, goes_with_holder}
 use Rattle.conversion_model.specs.Rows.{Piece, Product, Opens, Held, Stands}

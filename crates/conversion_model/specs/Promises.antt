@@ -1,9 +1,10 @@
 -- What the laws of conversion promise.
-use Rattle.std.specs.Prelude.{◌≡◌, ◌↔◌, ℕ, Bool, true, false, List, [], ◌∷◌, length, Option, Some, None, ⊤}
+use Rattle.std.specs.Prelude.{◌≡◌, ◌↔◌, ℕ, true, false, List, [], ◌∷◌, length, Option, Some, None, ⊤}
 use Rattle.std.specs.Bool.{IsTrue}
 use Rattle.std.specs.List.{list_any}
 use Rattle.plain_tree.specs.Types.{PlainType}
-use Rattle.plain_tree.specs.Ops.{Op}
+use Rattle.plain_tree.specs.Ops.{Op, op, Ops, end_of_ops, more_ops, Regions, end_of_regions, region, Blocks, end_of_blocks, block}
+use Rattle.conversion_model.specs.Conversion.{regions_of}
 use Rattle.conversion_model.specs.Types.{is_own, converted_type}
 use Rattle.conversion_model.specs.Templates.{Template}
 use Rattle.conversion_model.specs.Targets.{Shape}
@@ -36,3 +37,24 @@ NoUnusedCast = (f : Op) → is_cast f ≡ false → list_any (λ o. is_unused_ca
 -- where the first half of reconciling ends, no cast is left that another one undoes
 abbrev pub NoPairLeft : Type 0
 NoPairLeft = (f : Op) → is_cast f ≡ false → pair_of (pairs_left_out (length (operations f)) f) ≡ None
+
+abbrev mutual
+  -- no cast in a tree has regions
+  pub BareOp : Op → Type 0
+  BareOp (op k results operands regions successors) = BareRegions regions
+
+  pub BareOps : Ops → Type 0
+  BareOps end_of_ops = ⊤
+  BareOps (more_ops o os) = (is_cast o ≡ true → regions_of o ≡ end_of_regions) × BareOp o × BareOps os
+
+  pub BareRegions : Regions → Type 0
+  BareRegions end_of_regions = ⊤
+  BareRegions (region blocks more) = BareBlocks blocks × BareRegions more
+
+  pub BareBlocks : Blocks → Type 0
+  BareBlocks end_of_blocks = ⊤
+  BareBlocks (block label args ops more) = BareOps ops × BareBlocks more
+
+-- in a function that is reconciled no cast is left that another one undoes, where no cast has regions
+abbrev pub NoPairBehind : Type 0
+NoPairBehind = (f : Op) → is_cast f ≡ false → BareOp f → pair_of (reconciled f) ≡ None

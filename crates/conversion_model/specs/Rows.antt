@@ -1,5 +1,5 @@
 -- Rows of patterns: what may replace an operation.
-use Rattle.std.specs.Prelude.{ℕ, Bool, List, [], ◌∷◌, Option, Some, None}
+use Rattle.std.specs.Prelude.{ℕ, Bool, List, Option}
 use Rattle.plain_tree.specs.Types.{PlainType}
 use Rattle.plain_tree.specs.Attrs.{Entries}
 use Rattle.plain_tree.specs.Ops.{Op, Values}

@@ -1,10 +1,10 @@
 -- Shapes, and what a pass wants of them.
-use Rattle.std.specs.Prelude.{ℕ, ◌+◌, Bool, true, false, not, ◌||◌, List, [], ◌∷◌, length, map, codes}
+use Rattle.std.specs.Prelude.{ℕ, ◌+◌, Bool, true, false, not, ◌||◌, List, length, map, codes}
 use Rattle.std.specs.List.{list_all, list_any}
 use Rattle.std.specs.Str.{bytes_eq}
 use Rattle.plain_tree.specs.Types.{PlainType}
 use Rattle.plain_tree.specs.Attrs.{Entries}
-use Rattle.plain_tree.specs.Ops.{Op, op, Kind, Regions, end_of_regions, region}
+use Rattle.plain_tree.specs.Ops.{Op, op, Regions, end_of_regions, region}
 use Rattle.conversion_model.specs.Types.{is_own}
 
 -- an operation without its numbers: this is all that a row and a target look at

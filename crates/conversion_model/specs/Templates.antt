@@ -1,9 +1,8 @@
 -- Templates: the operations that replace one operation, without numbers of values.
-use Rattle.std.specs.Prelude.{ℕ, zero, suc, pred, ◌+◌, ◌==◌, List, [], ◌∷◌, ◌++◌, length, map, get_or, if◌then◌else◌}
-use Rattle.tree_model.specs.declared.type_tree.TypeTree.{TypeTree}
+use Rattle.std.specs.Prelude.{ℕ, pred, ◌+◌, ◌==◌, List, [], ◌∷◌, length, map, get_or, if◌then◌else◌}
 use Rattle.plain_tree.specs.Types.{PlainType, type_tree}
 use Rattle.plain_tree.specs.Attrs.{Entries, entries_tree}
-use Rattle.plain_tree.specs.Ops.{Op, op, Ops, end_of_ops, more_ops, end_of_regions, Values}
+use Rattle.plain_tree.specs.Ops.{Op, op, end_of_regions, Values}
 use Rattle.conversion_model.specs.declared.templates.Source.{Source}
 use Rattle.conversion_model.specs.declared.templates.Source.TheVariants.{Operand, Made}
 use Rattle.conversion_model.specs.declared.templates.StepTree.{StepTree}

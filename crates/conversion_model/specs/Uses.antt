@@ -1,8 +1,8 @@
 -- Values of a tree: their types, their uses, and copies left out.
-use Rattle.std.specs.Prelude.{ℕ, ◌+◌, ◌==◌, Bool, List, [], ◌∷◌, ◌++◌, map, Option, Some, None, if◌then◌else◌}
+use Rattle.std.specs.Prelude.{ℕ, ◌+◌, ◌==◌, Bool, List, [], ◌∷◌, ◌++◌, map, if◌then◌else◌}
 use Rattle.std.specs.Str.{bytes_eq}
 use Rattle.plain_tree.specs.Types.{PlainType, Void}
-use Rattle.plain_tree.specs.Ops.{Kind, Op, op, Ops, end_of_ops, more_ops, Regions, end_of_regions, region, Blocks, end_of_blocks, block, Values}
+use Rattle.plain_tree.specs.Ops.{Op, op, Ops, end_of_ops, more_ops, Regions, end_of_regions, region, Blocks, end_of_blocks, block, Values}
 use Rattle.conversion_model.specs.Templates.{copy_name}
 use Rattle.conversion_model.specs.Targets.{name_of}
 use Rattle.conversion_model.specs.Items.{op_size, ops_size, blocks_size}

@@ -1,6 +1,6 @@
 //! Laws of conversion, each the contract of a function that does nothing.
 
-ghost use Rattle.conversion_model.specs.Promises.{ConvertedIsOwn, NoCasts, NoPairLeft, NoUnusedCast, OwnTypes};
+ghost use Rattle.conversion_model.specs.Promises.{ConvertedIsOwn, NoCasts, NoPairBehind, NoPairLeft, NoUnusedCast, OwnTypes};
 
 /// The own types are those that the table maps to themselves, at each width, and each converted type is own.
 pub fn law_own_types()
@@ -13,8 +13,10 @@ pub fn law_no_casts()
     ensures { NoCasts }
 {}
 
-/// Reconciliation comes to its end: no cast is left that another one undoes, and then none without uses.
+/// Reconciliation comes to its end: no cast is left that another one undoes, and then none without uses, and still no cast
+/// that another one undoes.
 pub fn law_reconciled()
     ensures pairs { NoPairLeft }
     ensures unused { NoUnusedCast }
+    ensures behind { NoPairBehind }
 {}

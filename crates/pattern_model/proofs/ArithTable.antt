@@ -1,8 +1,7 @@
 -- The rows of arith_lowering on shapes of no, one, two and three operands.
-use Rattle.std.specs.Prelude.{ℕ, ◌≡◌, refl, List, [], ◌∷◌, ℤ, pos, negsuc, Option, Some, None, codes}
-use Rattle.plain_tree.specs.Types.{PlainType, Int, Index, Memref, Ptr}
+use Rattle.std.specs.Prelude.{ℕ, ◌≡◌, refl, List, [], ◌∷◌, ℤ, pos, negsuc, Option, None, codes}
+use Rattle.plain_tree.specs.Types.{PlainType, Int, Index, Ptr}
 use Rattle.plain_tree.specs.Attrs.{Entries, Number, Dialect}
-use Rattle.conversion_model.specs.declared.templates.Source.{Source}
 use Rattle.conversion_model.specs.declared.templates.Source.TheVariants.{Operand, Made}
 use Rattle.conversion_model.specs.Templates.{Template}
 use Rattle.pattern_model.specs.ArithRows.{arith_set}
@@ -46,7 +45,6 @@ two_indices_32 = refl
 
 two_integers : table_at 32 (shape (Int 7 ∷ Int 7 ∷ []) (Int 7 ∷ []) props) arith_set ≡ two_operands (Int 7)
 two_integers = refl
-
 
 -- of one operand: what index_cast and index_castui become hangs on the two widths
 abbrev one_operand : PlainType → Option Template → Option Template → List (Option Template)

@@ -1,5 +1,5 @@
 -- The rows of cf_lowering on branches.
-use Rattle.std.specs.Prelude.{ℕ, ◌≡◌, refl, List, [], ◌∷◌, ℤ, pos, Option, Some, None, codes}
+use Rattle.std.specs.Prelude.{ℕ, ◌≡◌, refl, List, [], ◌∷◌, pos, Option, Some, None, codes}
 use Rattle.plain_tree.specs.Types.{PlainType, Int, Index}
 use Rattle.plain_tree.specs.Attrs.{Entries, Numbers}
 use Rattle.conversion_model.specs.declared.templates.Source.TheVariants.{Operand, Made}
@@ -38,8 +38,8 @@ two_other = refl
 -- a branch of llvm with an index becomes one of the converted type, behind a cast, by the pattern of its own name
 index_branch : chosen 32 (partial_target cf_names llvm_branches) cf_set [] (branch 1 (Index ∷ []) [] (codes "llvm.br")) ≡ Some (record {
   steps =
-    record { name = codes "builtin.unrealized_conversion_cast"; props = []; sources = Operand 0 ∷ []; successors = []; makes = Int 32 ∷ [] }
-    ∷ record { name = codes "llvm.br"; props = []; sources = Made 0 ∷ []; successors = 0 ∷ []; makes = [] } ∷ [];
+      record { name = codes "builtin.unrealized_conversion_cast"; props = []; sources = Operand 0 ∷ []; successors = []; makes = Int 32 ∷ [] }
+      ∷ record { name = codes "llvm.br"; props = []; sources = Made 0 ∷ []; successors = 0 ∷ []; makes = [] } ∷ [];
   results = [];
 })
 index_branch = refl

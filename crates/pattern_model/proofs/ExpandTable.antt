@@ -1,7 +1,7 @@
 -- The rows of arith_expand on two operands of one type.
-use Rattle.std.specs.Prelude.{ℕ, ◌≡◌, refl, List, [], ◌∷◌, ℤ, pos, negsuc, Option, Some, None, codes}
+use Rattle.std.specs.Prelude.{ℕ, ◌≡◌, refl, List, [], ◌∷◌, ℤ, pos, negsuc, Option, codes}
 use Rattle.plain_tree.specs.Types.{PlainType, Int, Index}
-use Rattle.plain_tree.specs.Attrs.{Entries, Number}
+use Rattle.plain_tree.specs.Attrs.{Number}
 use Rattle.conversion_model.specs.declared.templates.Source.{Source}
 use Rattle.conversion_model.specs.declared.templates.Source.TheVariants.{Operand, Made}
 use Rattle.conversion_model.specs.Templates.{Step, Template}

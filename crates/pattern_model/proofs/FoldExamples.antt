@@ -1,10 +1,9 @@
 -- Pipelines over modules: failures with their numbers, what stands behind them, and the step on the module.
-use Rattle.std.specs.Prelude.{ℕ, ◌+◌, ◌*◌, ◌≡◌, refl, List, [], ◌∷◌, map, pos, Option, Some, None, codes}
-use Rattle.plain_tree.specs.Types.{PlainType, Int, Index, Ptr, Void, Memref}
+use Rattle.std.specs.Prelude.{ℕ, ◌≡◌, refl, List, [], ◌∷◌, map, Option, Some, None, codes}
+use Rattle.plain_tree.specs.Types.{PlainType, Int, Index, Ptr, Void}
 use Rattle.plain_tree.specs.Attrs.{Symbol}
 use Rattle.plain_tree.specs.Ops.{Op, end_of_blocks, PlainModule}
-use Rattle.tree_model.specs.declared.type_tree.Dim.TheVariants.{Fixed, Dynamic}
-use Rattle.pipeline_text.specs.declared.pass.PassName.TheVariants.{ConvertScfToCf, ArithExpand, ConvertArithToLlvm, ConvertCfToLlvm, ConvertFuncToLlvm, FinalizeMemrefToLlvm, ReconcileUnrealizedCasts, FullConvertToLlvm}
+use Rattle.pipeline_text.specs.declared.pass.PassName.TheVariants.{ConvertScfToCf, ArithExpand, ConvertArithToLlvm, ConvertCfToLlvm, ConvertFuncToLlvm, ReconcileUnrealizedCasts, FullConvertToLlvm}
 use Rattle.pipeline_text.specs.declared.pass.PassName.{PassName}
 use Rattle.pipeline_text.specs.declared.pass.Anchor.TheVariants.{FuncFunc}
 use Rattle.pipeline_text.specs.declared.pass.PassUse.{PassUse}
@@ -14,7 +13,7 @@ use Rattle.conversion_model.specs.Conversion.{Supply}
 use Rattle.pattern_model.specs.PassTable.{full_target, patterns_with}
 use Rattle.pattern_model.specs.Tables.{all_sets}
 use Rattle.pattern_model.specs.ModuleStep.{allocators_declared}
-use Rattle.pattern_model.specs.Fold.{Folded, folded_stages, width}
+use Rattle.pattern_model.specs.Fold.{folded_stages, width}
 use Rattle.pattern_model.proofs.Trees.{plain, ends, one_block, func, llvm_func, counted_up}
 
 abbrev new : ℕ → ℕ → ℕ → Supply
@@ -35,7 +34,7 @@ module_of funcs = record { props = []; attrs = []; funcs = funcs }
 -- The function b has an operation without a row: it stays as it is, and names it as operation 1, with no pattern. The others
 -- are converted, and the stage behind isn't run.
 b_fails : folded_stages new (Each FuncFunc (used ConvertArithToLlvm ∷ []) ∷ Whole (used ConvertFuncToLlvm) ∷ [])
-      (module_of (in_func (codes "a") (codes "arith.addi") ∷ in_func (codes "b") (codes "arith.ceildivsi") ∷ in_func (codes "c") (codes "arith.subi") ∷ []))
+    (module_of (in_func (codes "a") (codes "arith.addi") ∷ in_func (codes "b") (codes "arith.ceildivsi") ∷ in_func (codes "c") (codes "arith.subi") ∷ []))
     ≡ record {
       module_behind = module_of (in_func (codes "a") (codes "llvm.add") ∷ in_func (codes "b") (codes "arith.ceildivsi") ∷ in_func (codes "c") (codes "llvm.sub") ∷ []);
       failures = record { function = 1; position = 0; pass = ConvertArithToLlvm; number = 1; name = codes "arith.ceildivsi"; patterns = 0 } ∷ [];
@@ -52,7 +51,7 @@ whole_fails = refl
 
 -- within a nested list a function is as before the pass that failed, which is the second
 second_fails : folded_stages new (Each FuncFunc (used ArithExpand ∷ used ConvertScfToCf ∷ used ConvertCfToLlvm ∷ used ConvertArithToLlvm ∷ []) ∷ [])
-      (module_of (func (codes "f") (Index ∷ []) [] (one_block 0 ((0, Index) ∷ []) (plain (codes "arith.addi") ((1, Index) ∷ []) (0 ∷ 0 ∷ []) [] ∷ plain (codes "arith.maxsi") ((2, Index) ∷ []) (0 ∷ []) [] ∷ ends (codes "func.return") [] [] [] ∷ [])) ∷ []))
+    (module_of (func (codes "f") (Index ∷ []) [] (one_block 0 ((0, Index) ∷ []) (plain (codes "arith.addi") ((1, Index) ∷ []) (0 ∷ 0 ∷ []) [] ∷ plain (codes "arith.maxsi") ((2, Index) ∷ []) (0 ∷ []) [] ∷ ends (codes "func.return") [] [] [] ∷ [])) ∷ []))
     ≡ record {
       module_behind = module_of (func (codes "f") (Index ∷ []) [] (one_block 0 ((0, Index) ∷ []) (plain (codes "arith.addi") ((1, Index) ∷ []) (0 ∷ 0 ∷ []) [] ∷ plain (codes "arith.maxsi") ((2, Index) ∷ []) (0 ∷ []) [] ∷ ends (codes "func.return") [] [] [] ∷ [])) ∷ []);
       failures = record { function = 0; position = 0; pass = ArithExpand; number = 2; name = codes "arith.maxsi"; patterns = 1 } ∷ [];
@@ -61,7 +60,7 @@ second_fails = refl
 
 -- patterns with a root count whether or not they are defined there
 counts : patterns_with FullConvertToLlvm (codes "memref.alloc") ∷ patterns_with FullConvertToLlvm (codes "builtin.unrealized_conversion_cast")
-      ∷ patterns_with ConvertFuncToLlvm (codes "builtin.unrealized_conversion_cast") ∷ patterns_with ReconcileUnrealizedCasts (codes "memref.alloc") ∷ []
+    ∷ patterns_with ConvertFuncToLlvm (codes "builtin.unrealized_conversion_cast") ∷ patterns_with ReconcileUnrealizedCasts (codes "memref.alloc") ∷ []
     ≡ 2 ∷ 1 ∷ 0 ∷ 0 ∷ []
 counts = refl
 

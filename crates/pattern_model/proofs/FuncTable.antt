@@ -1,16 +1,15 @@
 -- The rows of func_lowering.
-use Rattle.std.specs.Prelude.{ℕ, ◌≡◌, refl, List, [], ◌∷◌, ◌++◌, ℤ, pos, Option, Some, None, codes}
+use Rattle.std.specs.Prelude.{ℕ, ◌≡◌, refl, List, [], ◌∷◌, ◌++◌, ℤ, pos, Some, None, codes}
 use Rattle.tree_model.specs.declared.type_tree.Dim.TheVariants.{Fixed, Dynamic}
-use Rattle.plain_tree.specs.Types.{PlainType, Int, Index, Memref, Ptr, Func, LlvmFunc, Void, Struct, types_in}
+use Rattle.plain_tree.specs.Types.{PlainType, Int, Index, Memref, Ptr, Func, LlvmFunc, Struct, types_in}
 use Rattle.plain_tree.specs.Attrs.{Entries, Unit, Text, Symbol, OfType, Dialect}
 use Rattle.conversion_model.specs.declared.templates.Source.{Source}
 use Rattle.conversion_model.specs.declared.templates.Source.TheVariants.{Operand, Made}
 use Rattle.conversion_model.specs.Types.{descriptor}
-use Rattle.conversion_model.specs.Templates.{Step, Template}
-use Rattle.conversion_model.specs.Rows.{Frame, Part}
+use Rattle.conversion_model.specs.Templates.{Step}
 use Rattle.conversion_model.specs.Targets.{Shape}
 use Rattle.pattern_model.specs.FuncRows.{func_set, func_row}
-use Rattle.pattern_model.proofs.RowTables.{shape, table_at, step, steps_to, steps_only, alone, the_operand, at_place}
+use Rattle.pattern_model.proofs.RowTables.{shape, table_at, step, steps_only, alone, the_operand, at_place}
 
 abbrev buffer : PlainType
 buffer = Memref (Dynamic ∷ Fixed 3 ∷ []) (Int 8)
@@ -30,8 +29,8 @@ fields m n =
 -- several results are the fields of one struct
 call_32 : table_at 32 (shape (Index ∷ buffer ∷ Int 5 ∷ []) (buffer ∷ Index ∷ []) callee) func_set ≡ None ∷ Some (record {
   steps = fields (Operand 1) (Int 32)
-    ++ step (codes "llvm.call") (Operand 0 ∷ Made 0 ∷ Made 1 ∷ Made 2 ∷ Made 3 ∷ Made 4 ∷ Made 5 ∷ Made 6 ∷ Operand 2 ∷ []) callee (Struct (types_in (descriptor 32 2 ∷ Int 32 ∷ [])) ∷ [])
-    ∷ extract (Made 7) (pos 0 ∷ []) (descriptor 32 2) ∷ extract (Made 7) (pos 1 ∷ []) (Int 32) ∷ [];
+      ++ step (codes "llvm.call") (Operand 0 ∷ Made 0 ∷ Made 1 ∷ Made 2 ∷ Made 3 ∷ Made 4 ∷ Made 5 ∷ Made 6 ∷ Operand 2 ∷ []) callee (Struct (types_in (descriptor 32 2 ∷ Int 32 ∷ [])) ∷ [])
+      ∷ extract (Made 7) (pos 0 ∷ []) (descriptor 32 2) ∷ extract (Made 7) (pos 1 ∷ []) (Int 32) ∷ [];
   results = Made 8 ∷ Made 9 ∷ [];
 }) ∷ None ∷ None ∷ []
 call_32 = refl
@@ -62,10 +61,13 @@ cast_other = refl
 -- is given by the parameters that it becomes.
 func_shape : Shape
 func_shape = record {
-  name = codes "func.func"; operands = []; results = [];
+  name = codes "func.func";
+  operands = [];
+  results = [];
   props = (codes "arg_attrs", Unit) ∷ (codes "function_type", OfType (Func (types_in (Index ∷ Memref (Dynamic ∷ []) Index ∷ [])) (types_in (Index ∷ Int 1 ∷ [])))) ∷ (codes "sym_name", Text (codes "f")) ∷ (codes "sym_visibility", Text (codes "private")) ∷ [];
   attrs = (codes "linkage", Unit) ∷ (codes "note", Unit) ∷ [];
-  successors = 0; regions = 1;
+  successors = 0;
+  regions = 1;
 }
 
 abbrev whole : PlainType
@@ -77,19 +79,19 @@ insert m k path = step (codes "llvm.insertvalue") (Made m ∷ Operand k ∷ []) 
 func_32 : func_row 32 func_shape ≡ Some (record {
   name = codes "llvm.func";
   props =
-    (codes "function_type", OfType (LlvmFunc (Struct (types_in (Int 32 ∷ Int 1 ∷ []))) (types_in (Int 32 ∷ Ptr ∷ Ptr ∷ Int 32 ∷ Int 32 ∷ Int 32 ∷ []))))
-    ∷ (codes "linkage", Dialect (codes "llvm.linkage") (codes "external" ∷ [])) ∷ (codes "sym_name", Text (codes "f")) ∷ (codes "sym_visibility", Text (codes "private")) ∷ [];
+      (codes "function_type", OfType (LlvmFunc (Struct (types_in (Int 32 ∷ Int 1 ∷ []))) (types_in (Int 32 ∷ Ptr ∷ Ptr ∷ Int 32 ∷ Int 32 ∷ Int 32 ∷ []))))
+      ∷ (codes "linkage", Dialect (codes "llvm.linkage") (codes "external" ∷ [])) ∷ (codes "sym_name", Text (codes "f")) ∷ (codes "sym_visibility", Text (codes "private")) ∷ [];
   attrs = (codes "note", Unit) ∷ [];
   entry =
-    record { takes = Int 32 ∷ []; gives = record { steps = []; results = Operand 0 ∷ [] } }
-    ∷ record {
-      takes = Ptr ∷ Ptr ∷ Int 32 ∷ Int 32 ∷ Int 32 ∷ [];
-      gives = record {
-        steps = step (codes "llvm.mlir.undef") [] [] (whole ∷ [])
-          ∷ insert 0 0 (pos 0 ∷ []) ∷ insert 1 1 (pos 1 ∷ []) ∷ insert 2 2 (pos 2 ∷ []) ∷ insert 3 3 (pos 3 ∷ pos 0 ∷ []) ∷ insert 4 4 (pos 4 ∷ pos 0 ∷ []) ∷ [];
-        results = Made 5 ∷ [];
-      };
-    } ∷ [];
+      record { takes = Int 32 ∷ []; gives = record { steps = []; results = Operand 0 ∷ [] } }
+      ∷ record {
+        takes = Ptr ∷ Ptr ∷ Int 32 ∷ Int 32 ∷ Int 32 ∷ [];
+        gives = record {
+          steps = step (codes "llvm.mlir.undef") [] [] (whole ∷ [])
+              ∷ insert 0 0 (pos 0 ∷ []) ∷ insert 1 1 (pos 1 ∷ []) ∷ insert 2 2 (pos 2 ∷ []) ∷ insert 3 3 (pos 3 ∷ pos 0 ∷ []) ∷ insert 4 4 (pos 4 ∷ pos 0 ∷ []) ∷ [];
+          results = Made 5 ∷ [];
+        };
+      } ∷ [];
 })
 unfolding func_shape
 func_32 = refl

@@ -1,5 +1,5 @@
 -- The rows of memref_lowering at both widths.
-use Rattle.std.specs.Prelude.{ℕ, ◌+◌, ◌≡◌, refl, List, [], ◌∷◌, ◌++◌, ℤ, pos, negsuc, Option, Some, None, codes}
+use Rattle.std.specs.Prelude.{ℕ, ◌+◌, ◌≡◌, refl, List, [], ◌∷◌, ◌++◌, ℤ, pos, negsuc, Option, None, codes}
 use Rattle.tree_model.specs.declared.type_tree.Dim.TheVariants.{Fixed, Dynamic}
 use Rattle.plain_tree.specs.Types.{PlainType, Int, Index, Memref, Ptr}
 use Rattle.plain_tree.specs.Attrs.{Entries, Number, Numbers, Symbol, OfType}
@@ -8,7 +8,7 @@ use Rattle.conversion_model.specs.declared.templates.Source.TheVariants.{Operand
 use Rattle.conversion_model.specs.Types.{descriptor}
 use Rattle.conversion_model.specs.Templates.{Step, Template}
 use Rattle.pattern_model.specs.MemrefRows.{memref_set}
-use Rattle.pattern_model.proofs.RowTables.{shape, table_at, step, steps_to, steps_only, alone, the_operand, predicate_of, at_place}
+use Rattle.pattern_model.proofs.RowTables.{shape, table_at, step, steps_to, steps_only, the_operand, predicate_of, at_place}
 
 abbrev buffer : PlainType
 buffer = Memref (Fixed 2 ∷ Dynamic ∷ Fixed 4294967297 ∷ []) (Int 12)
@@ -72,7 +72,7 @@ aligned_64 = refl
 
 aligned_32 : table_at 32 (shape (Index ∷ []) (buffer ∷ []) alignment) memref_set ≡ only_alloc None
     (steps_to (bytes (pos 1) (Int 32) ++ rounded (Int 32)
-      ++ widened (codes "llvm.zext") (Made 8) ∷ widened (codes "llvm.zext") (Made 12) ∷ call (codes "aligned_alloc") (Made 13 ∷ Made 14 ∷ []) ∷ described 15 (Int 32) (descriptor 32 3)) 26)
+    ++ widened (codes "llvm.zext") (Made 8) ∷ widened (codes "llvm.zext") (Made 12) ∷ call (codes "aligned_alloc") (Made 13 ∷ Made 14 ∷ []) ∷ described 15 (Int 32) (descriptor 32 3)) 26)
 aligned_32 = refl
 
 -- without dimensions the elements are o, and there are neither sizes nor strides

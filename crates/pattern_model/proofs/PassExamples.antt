@@ -1,11 +1,10 @@
 -- Passes over small functions and modules.
-use Rattle.std.specs.Prelude.{ℕ, ◌≡◌, refl, List, [], ◌∷◌, pos, Ok, Err, codes}
+use Rattle.std.specs.Prelude.{ℕ, ◌≡◌, refl, List, [], ◌∷◌, Ok, codes}
 use Rattle.plain_tree.specs.Types.{Int, Index}
 use Rattle.plain_tree.specs.Ops.{Op}
-use Rattle.pipeline_text.specs.declared.pass.PassName.TheVariants.{ConvertArithToLlvm, ReconcileUnrealizedCasts, ConvertFuncToLlvm, FullConvertToLlvm}
-use Rattle.conversion_model.specs.Reconciled.{reconciled}
-use Rattle.pattern_model.specs.PassTable.{pass_tree, patterns_with}
-use Rattle.pattern_model.proofs.Trees.{plain, ends, holds, one_block, func, segments, counted_up}
+use Rattle.pipeline_text.specs.declared.pass.PassName.TheVariants.{ConvertArithToLlvm, ReconcileUnrealizedCasts}
+use Rattle.pattern_model.specs.PassTable.{pass_tree}
+use Rattle.pattern_model.proofs.Trees.{plain, ends, one_block, func, counted_up}
 
 abbrev cast_name : List ℕ
 cast_name = codes "builtin.unrealized_conversion_cast"

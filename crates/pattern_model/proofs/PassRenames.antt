@@ -1,12 +1,11 @@
 -- For any two fresh supplies a pass makes the same of a function, up to numbers.
 use Rattle.std.proofs.Common.{ℕ, List, [], ◌∷◌, ◌++◌, Option, Some, None}
-use Rattle.std.specs.Prelude.{Ok}
 use Rattle.pipeline_text.specs.declared.pass.PassName.{PassName}
 use Rattle.pipeline_text.specs.declared.pass.PassName.TheVariants.{ConvertScfToCf, ArithExpand, ConvertArithToLlvm, ConvertCfToLlvm, ConvertFuncToLlvm, FinalizeMemrefToLlvm, ReconcileUnrealizedCasts, FullConvertToLlvm}
 use Rattle.plain_tree.specs.Ops.{Op}
 use Rattle.conversion_model.specs.Rows.{Pattern}
 use Rattle.conversion_model.specs.Renamings.{Anything, always, OneToOne, TableRenames, RenOp, RenSupply, RenAnswer, ren_function}
-use Rattle.conversion_model.specs.Fresh.{Fresh, SameValue, SameLabel}
+use Rattle.conversion_model.specs.Fresh.{SameValue, SameLabel}
 use Rattle.conversion_model.specs.Conversion.{Pass, Supply}
 use Rattle.conversion_model.proofs.RenamedConversion.{conversion_renames}
 use Rattle.conversion_model.proofs.RenamedReconcile.{reconciled_ren}
@@ -33,9 +32,46 @@ expand_renames : (bits : ℕ) → TableRenames bits expand_set
 expand_renames bits = (always, (always, (always, (always, (always, always)))))
 
 arith_renames : (bits : ℕ) → TableRenames bits arith_set
-arith_renames bits =
-    (always, (always, (always, (always, (always, (always, (always, (always, (always, (always, (always, (always, (always,
-    (always, (always, (always, (always, (always, (always, (always, (always, (always, (always, (always, (always, always)))))))))))))))))))))))))
+arith_renames bits = (
+  always,
+  (
+    always,
+    (
+      always,
+      (
+        always,
+        (
+          always,
+          (
+            always,
+            (
+              always,
+              (
+                always,
+                (
+                  always,
+                  (
+                    always,
+                    (
+                      always,
+                      (
+                        always,
+                        (
+                          always,
+                          (always, (always, (always, (always, (always, (always, (always, (always, (always, (always, (always, (always, always)))))))))))),
+                        ),
+                      ),
+                    ),
+                  ),
+                ),
+              ),
+            ),
+          ),
+        ),
+      ),
+    ),
+  ),
+)
 
 cf_renames : (bits : ℕ) → TableRenames bits cf_set
 cf_renames bits = (always, (always, (always, (always, always))))
@@ -52,10 +88,10 @@ all_func_renames bits = (always, (always, (always, (always, always))))
 all_renames : (bits : ℕ) → TableRenames bits all_sets
 all_renames bits =
     both_tables bits scf_set (expand_set ++ arith_set ++ cf_set ++ memref_set ++ func_set) (scf_renames bits)
-      (both_tables bits expand_set (arith_set ++ cf_set ++ memref_set ++ func_set) (expand_renames bits)
-        (both_tables bits arith_set (cf_set ++ memref_set ++ func_set) (arith_renames bits)
-          (both_tables bits cf_set (memref_set ++ func_set) (cf_renames bits)
-            (both_tables bits memref_set func_set (memref_renames bits) (all_func_renames bits)))))
+    (both_tables bits expand_set (arith_set ++ cf_set ++ memref_set ++ func_set) (expand_renames bits)
+    (both_tables bits arith_set (cf_set ++ memref_set ++ func_set) (arith_renames bits)
+    (both_tables bits cf_set (memref_set ++ func_set) (cf_renames bits)
+    (both_tables bits memref_set func_set (memref_renames bits) (all_func_renames bits)))))
 
 abbrev PassRenames : ℕ → Option Pass → Type 1
 PassRenames bits None = Anything

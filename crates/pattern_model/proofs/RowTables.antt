@@ -1,7 +1,7 @@
 -- What each row of a set makes of one shape, in the order of the set.
-use Rattle.std.specs.Prelude.{ℕ, Bool, List, [], ◌∷◌, map, ℤ, pos, Option, Some, None, codes}
+use Rattle.std.specs.Prelude.{ℕ, List, [], ◌∷◌, map, ℤ, Option, Some, None, codes}
 use Rattle.plain_tree.specs.Types.{PlainType, Int}
-use Rattle.plain_tree.specs.Attrs.{Entries, Number, Numbers, Dialect}
+use Rattle.plain_tree.specs.Attrs.{Entries, Number, Numbers}
 use Rattle.conversion_model.specs.declared.templates.Source.{Source}
 use Rattle.conversion_model.specs.declared.templates.Source.TheVariants.{Operand, Made}
 use Rattle.conversion_model.specs.Templates.{Step, Template}

@@ -1,16 +1,16 @@
 -- The rows of scf look at numbers only as at names.
-use Rattle.std.proofs.Common.{◌≡◌, ℕ, suc, ◌+◌, ◌*◌, ◌==◌, Bool, true, false, List, [], ◌∷◌, Option, Some, None, refl, sym, ap, ◌∙◌, subst, length, map}
+use Rattle.std.proofs.Common.{◌≡◌, ℕ, suc, ◌+◌, ◌*◌, ◌==◌, Bool, true, false, List, [], ◌∷◌, Option, Some, None, refl, ap, ◌∙◌, subst, length, map}
 use Rattle.std.specs.Prelude.{ℤ, pos, codes, if◌then◌else◌}
 use Rattle.plain_tree.specs.Types.{PlainType, Int, Index}
 use Rattle.plain_tree.specs.Attrs.{Entries, PlainAttr, entry}
 use Rattle.plain_tree.specs.Attrs as attr
-use Rattle.plain_tree.specs.Ops.{Kind, Op, op, Ops, end_of_ops, more_ops, Regions, end_of_regions, region, Blocks, end_of_blocks, block, Values}
+use Rattle.plain_tree.specs.Ops.{op, Ops, more_ops, Regions, end_of_regions, Blocks, Values}
 use Rattle.conversion_model.specs.Targets.{name_of, operands_of, goes_with_holder}
-use Rattle.conversion_model.specs.Rows.{Cutting, Numbers, Piece, Product, Opens, Held, Stands}
-use Rattle.conversion_model.specs.Renamings.{RenAll, none_all, more_all, RenValues, none_values, more_values, RenOp, ren_op, RenOps, ops_ended, ren_more, RenRegions, regions_ended, ren_region, RenBlocks, blocks_ended, ren_block, RenPieces, pieces_ended, ren_product, ren_opens, ren_held, ren_stands, RenCut, no_cut, ren_cut, RenNumbers, RowRenames, OneToOne, TypesAgree}
+use Rattle.conversion_model.specs.Rows.{Cutting, Numbers, Piece, Product}
+use Rattle.conversion_model.specs.Renamings.{RenAll, none_all, more_all, RenValues, none_values, more_values, ren_op, RenOps, ops_ended, ren_more, RenRegions, regions_ended, ren_region, RenBlocks, blocks_ended, ren_block, RenPieces, pieces_ended, ren_product, ren_opens, ren_held, ren_stands, RenCut, no_cut, ren_cut, RenNumbers, RowRenames, OneToOne, TypesAgree}
 use Rattle.conversion_model.proofs.RenamedTypes.{all_length, name_same, operand_types, operands_ren}
 use Rattle.pattern_model.specs.Drafts.{constant_value, predicate, sizes}
-use Rattle.pattern_model.specs.ScfRows.{Single, branch, case_pieces, conditional, execute_row, for_of, for_pieces, for_row, head_pieces, held_block, held_blocks, if_alone, if_of, if_pieces, if_row, if_without_else, or_none, passed_by, product, single, singles, stand_for, switch_blocks, switch_cases, switch_pieces, switch_row, test_pieces, tests, while_of, while_passed, while_pieces, while_row, with_single, with_type, yields_to}
+use Rattle.pattern_model.specs.ScfRows.{Single, branch, case_pieces, conditional, execute_row, for_of, for_row, head_pieces, held_block, held_blocks, if_alone, if_of, if_row, or_none, passed_by, product, single, singles, stand_for, switch_blocks, switch_cases, switch_pieces, switch_row, test_pieces, tests, while_of, while_passed, while_row, with_single, with_type, yields_to}
 
 -- Products
 
@@ -18,7 +18,7 @@ made : {R L : ℕ → ℕ → Type 0} {vs ws : Values} {os ps ls ms : List ℕ} 
     → TypesAgree R s t → RenValues R vs ws → RenAll R os ps → RenAll L ls ms → RenPieces R L xs ys → RenPieces R L (product s name vs os props ls ∷ xs) (product t name ws ps props ms ∷ ys)
 made {R = R} {L = L} {vs = vs} {ws = ws} {os = os} {ps = ps} {ls = ls} {ms = ms} {xs = xs} {ys = ys} s t name props agree values operands labels more =
     subst (λ types. RenPieces R L (product s name vs os props ls ∷ xs) (Product (op (record { name = name; props = props; attrs = [] }) ws ps end_of_regions ms) types ∷ ys)) (operand_types s t agree operands)
-      (ren_product (ren_op values operands regions_ended labels) more)
+    (ren_product (ren_op values operands regions_ended labels) more)
 
 branch_ren : {R L : ℕ → ℕ → Type 0} {os ps : List ℕ} {l m : ℕ} {xs ys : List Piece} (s t : ℕ → PlainType) → TypesAgree R s t → RenAll R os ps → L l m → RenPieces R L xs ys → RenPieces R L (branch s os l ∷ xs) (branch t ps m ∷ ys)
 branch_ren s t agree operands label more = made s t (codes "cf.br") [] agree none_values operands (more_all label none_all) more
@@ -27,7 +27,7 @@ conditional_ren : {R L : ℕ → ℕ → Type 0} {c d l m i j : ℕ} {os ps : Li
     → RenPieces R L (conditional s c os l i ∷ xs) (conditional t d ps m j ∷ ys)
 conditional_ren {R = R} {L = L} {c = c} {d = d} {l = l} {m = m} {i = i} {j = j} {os = os} {ps = ps} {xs = xs} {ys = ys} s t agree test operands label other more =
     subst (λ n. RenPieces R L (conditional s c os l i ∷ xs) (product t (codes "cf.cond_br") [] (d ∷ ps) (sizes (pos 1 ∷ pos n ∷ pos 0 ∷ [])) (m ∷ j ∷ []) ∷ ys)) (all_length operands)
-      (made s t (codes "cf.cond_br") (sizes (pos 1 ∷ pos (length os) ∷ pos 0 ∷ [])) agree none_values (more_all test operands) (more_all label (more_all other none_all)) more)
+    (made s t (codes "cf.cond_br") (sizes (pos 1 ∷ pos (length os) ∷ pos 0 ∷ [])) agree none_values (more_all test operands) (more_all label (more_all other none_all)) more)
 
 with_type_ren : {R : ℕ → ℕ → Type 0} (m n : ℕ) (u : PlainType) (s t : ℕ → PlainType) → OneToOne R → R m n → TypesAgree R s t → TypesAgree R (with_type m u s) (with_type n u t)
 with_type_ren m n u s t one new agree i j r = ap (λ b. if b then u else s i) (one i j m n r new) ∙ ap (λ v. if j == n then u else v) (agree i j r)
@@ -46,7 +46,7 @@ passed_ren : {R L : ℕ → ℕ → Type 0} {os ps : Ops} → RenOps R L os ps �
 passed_ren ops_ended = none_passed
 passed_ren {R = R} (ren_more {o = o} {p = p} {os = os} {ps = ps} r rest) =
     subst (λ name. RenPassed R (passed_by (more_ops o os)) (if goes_with_holder name then Some (operands_of p) else passed_by ps)) (name_same r)
-      (passed_if (goes_with_holder (name_of o)) (operands_ren r) (passed_ren rest))
+    (passed_if (goes_with_holder (name_of o)) (operands_ren r) (passed_ren rest))
 
 or_none_ren : {R : ℕ → ℕ → Type 0} {x y : Option (List ℕ)} → RenPassed R x y → RenAll R (or_none x) (or_none y)
 or_none_ren none_passed = none_all
@@ -130,14 +130,14 @@ for_of_ren a b s t one new agree results lower upper step initial body none_valu
 for_of_ren {R = R} a b s t one new agree results lower upper step initial body (more_values {t = v} iv accs) passed =
     let types = with_type_ren (a.value 0) (b.value 0) (Int 1) (with_type (a.value 1) v s) (with_type (b.value 1) v t) one (new.values 0) (with_type_ren (a.value 1) (b.value 1) v s t one (new.values 1) agree) in
     ren_cut (branch_ren _ _ types (more_all lower initial) (new.labels 0)
-      (ren_opens (new.labels 0) (more_values iv accs)
-      (made _ _ (codes "arith.cmpi") (predicate 2) types (more_values (new.values 0) none_values) (more_all iv (more_all upper none_all)) none_all
-      (conditional_ren _ _ types (new.values 0) none_all body (new.labels 1)
-      (ren_opens body none_values
-      (ren_held
-      (made _ _ (codes "arith.addi") [] types (more_values (new.values 1) none_values) (more_all iv (more_all step none_all)) none_all
-      (branch_ren _ _ types (more_all (new.values 1) passed) (new.labels 0)
-      (ren_opens (new.labels 1) none_values (stand_ren results (argument_numbers accs)))))))))))
+    (ren_opens (new.labels 0) (more_values iv accs)
+    (made _ _ (codes "arith.cmpi") (predicate 2) types (more_values (new.values 0) none_values) (more_all iv (more_all upper none_all)) none_all
+    (conditional_ren _ _ types (new.values 0) none_all body (new.labels 1)
+    (ren_opens body none_values
+    (ren_held
+    (made _ _ (codes "arith.addi") [] types (more_values (new.values 1) none_values) (more_all iv (more_all step none_all)) none_all
+    (branch_ren _ _ types (more_all (new.values 1) passed) (new.labels 0)
+    (ren_opens (new.labels 1) none_values (stand_ren results (argument_numbers accs)))))))))))
 
 pub for_renames : RowRenames (Cutting for_row)
 for_renames R L a b s t o p one new agree (ren_op results none_all r ls) = no_cut
@@ -156,13 +156,13 @@ while_passed_ren : {R L : ℕ → ℕ → Type 0} {vs ws : Values} {is js os ps 
 while_passed_ren a b s t new agree results initial before none_all behind = no_cut
 while_passed_ren a b s t new agree results initial before (more_all c values) behind =
     ren_cut (branch_ren s t agree initial before.label
-      (ren_opens before.label before.args
-      (ren_held
-      (conditional_ren s t agree c values behind.label (new.labels 0)
-      (ren_opens behind.label behind.args
-      (ren_held
-      (branch_ren s t agree behind.passed before.label
-      (ren_opens (new.labels 0) none_values (stand_ren results values)))))))))
+    (ren_opens before.label before.args
+    (ren_held
+    (conditional_ren s t agree c values behind.label (new.labels 0)
+    (ren_opens behind.label behind.args
+    (ren_held
+    (branch_ren s t agree behind.passed before.label
+    (ren_opens (new.labels 0) none_values (stand_ren results values)))))))))
 
 while_of_ren : {R L : ℕ → ℕ → Type 0} {vs ws : Values} {is js : List ℕ} {x x' y y' : Option Single} (a b : Numbers) (s t : ℕ → PlainType) → RenNumbers R L a b → TypesAgree R s t
     → RenValues R vs ws → RenAll R is js → RenMaybe R L x x' → RenMaybe R L y y' → RenCut R L (while_of a s vs is x y) (while_of b t ws js x' y')
@@ -184,8 +184,8 @@ test_ren a b s t j number one new agree index case other more =
     let e : ℕ = 2 * j + 1 in
     let types = with_type_ren (a.value k) (b.value k) Index (with_type (a.value e) (Int 1) s) (with_type (b.value e) (Int 1) t) one (new.values k) (with_type_ren (a.value e) (b.value e) (Int 1) s t one (new.values e) agree) in
     made _ _ (codes "arith.constant") (constant_value Index number) types (more_values (new.values k) none_values) none_all none_all
-      (made _ _ (codes "arith.cmpi") (predicate 0) types (more_values (new.values e) none_values) (more_all index (more_all (new.values k) none_all)) none_all
-        (conditional_ren _ _ types (new.values e) none_all case other more))
+    (made _ _ (codes "arith.cmpi") (predicate 0) types (more_values (new.values e) none_values) (more_all index (more_all (new.values k) none_all)) none_all
+    (conditional_ren _ _ types (new.values e) none_all case other more))
 
 tests_ren : {R L : ℕ → ℕ → Type 0} {i i' d d' : ℕ} {cs ds : List Single} {xs ys : List Piece} (a b : Numbers) (s t : ℕ → PlainType) (j : ℕ) (numbers : List ℤ) → OneToOne R → RenNumbers R L a b → TypesAgree R s t → R i i' → RenSingles R L cs ds → L d d' → RenPieces R L xs ys
     → RenPieces R L (tests a s i j numbers cs d xs) (tests b t i' j numbers ds d' ys)
@@ -221,9 +221,9 @@ switch_blocks_ren a b s t numbers one new agree results index not_single = no_cu
 switch_blocks_ren a b s t numbers one new agree results index (all_single singles_ended) = no_cut
 switch_blocks_ren {R = R} {L = L} {vs = vs} {ws = ws} {i = i} {i' = i'} a b s t numbers one new agree results index (all_single (more_singles {a = x} {b = y} {xs = cs} {ys = ds} default cases)) =
     subst (λ n. RenCut R L (switch_blocks a s vs i numbers (Some (x ∷ cs))) (if length numbers == n then Some (switch_pieces b t ws i' numbers y ds) else None)) (singles_length cases)
-      (cut_if (length numbers == length cs)
-        (head_ren a b s t numbers one new agree index cases default.label
-          (cases_ren (a.label 0) (b.label 0) s t 1 agree (new.labels 0) cases (yields_ren s t 0 agree (new.labels 0) default (ren_opens (new.labels 0) results pieces_ended)))))
+    (cut_if (length numbers == length cs)
+    (head_ren a b s t numbers one new agree index cases default.label
+    (cases_ren (a.label 0) (b.label 0) s t 1 agree (new.labels 0) cases (yields_ren s t 0 agree (new.labels 0) default (ren_opens (new.labels 0) results pieces_ended)))))
 
 switch_cases_ren : {R L : ℕ → ℕ → Type 0} {vs ws : Values} {i i' : ℕ} {x y : Option (List Single)} (a b : Numbers) (s t : ℕ → PlainType) (cases : Option PlainAttr) → OneToOne R → RenNumbers R L a b → TypesAgree R s t → RenValues R vs ws → R i i' → RenAllSingles R L x y
     → RenCut R L (switch_cases a s vs i cases x) (switch_cases b t ws i' cases y)

@@ -1,8 +1,8 @@
 -- How the trees of examples are written.
-use Rattle.std.specs.Prelude.{ℕ, ◌+◌, ◌*◌, List, [], ◌∷◌, ℤ, pos, Option, Some, None, codes}
-use Rattle.plain_tree.specs.Types.{PlainType, Int, Index, Func, LlvmFunc, types_in}
-use Rattle.plain_tree.specs.Attrs.{Entries, PlainAttr, Text, OfType, Dialect, Numbers, Number}
-use Rattle.plain_tree.specs.Ops.{Kind, Op, op, Ops, ops_in, Regions, end_of_regions, region, Blocks, end_of_blocks, block, Values}
+use Rattle.std.specs.Prelude.{ℕ, ◌+◌, ◌*◌, List, [], ◌∷◌, ℤ, codes}
+use Rattle.plain_tree.specs.Types.{PlainType, Func, LlvmFunc, types_in}
+use Rattle.plain_tree.specs.Attrs.{Entries, Text, OfType, Dialect, Numbers}
+use Rattle.plain_tree.specs.Ops.{Op, op, ops_in, Regions, end_of_regions, region, Blocks, end_of_blocks, block, Values}
 use Rattle.conversion_model.specs.Conversion.{Supply}
 
 -- an operation without regions and successors

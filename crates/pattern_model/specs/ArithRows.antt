@@ -1,5 +1,5 @@
 -- The patterns of arith_lowering: operations of arith that become those of llvm, in converted types.
-use Rattle.std.specs.Prelude.{ℕ, true, false, ◌==◌, nat_lt, Bool, List, [], ◌∷◌, map, Option, Some, None, if◌then◌else◌, codes}
+use Rattle.std.specs.Prelude.{ℕ, true, ◌==◌, nat_lt, List, [], ◌∷◌, map, Option, Some, None, if◌then◌else◌, codes}
 use Rattle.std.specs.Str.{bytes_eq}
 use Rattle.plain_tree.specs.Types.{PlainType, Int}
 use Rattle.plain_tree.specs.Attrs.{Entries, PlainAttr, Number, Dialect, entry}
@@ -9,7 +9,7 @@ use Rattle.conversion_model.specs.Types.{becomes}
 use Rattle.conversion_model.specs.Templates.{Template}
 use Rattle.conversion_model.specs.Targets.{Shape}
 use Rattle.conversion_model.specs.Rows.{Pattern, Straight}
-use Rattle.pattern_model.specs.Drafts.{Draft, value, gives, draft, predicate, constant_value, is_plain, when}
+use Rattle.pattern_model.specs.Drafts.{value, gives, draft, predicate, constant_value, is_plain, when}
 
 -- Properties, each none where the row asks for another form
 

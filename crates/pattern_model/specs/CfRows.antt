@@ -1,14 +1,13 @@
 -- The patterns of cf_lowering: branches, in converted types.
 use Rattle.std.specs.Prelude.{ℕ, ◌==◌, Bool, not, ◌&&◌, List, [], ◌∷◌, map, length, Option, Some, None, codes}
 use Rattle.std.specs.List.{list_all}
-use Rattle.plain_tree.specs.Types.{PlainType}
 use Rattle.plain_tree.specs.Attrs.{Entries, entry}
 use Rattle.conversion_model.specs.declared.templates.Source.{Source}
 use Rattle.conversion_model.specs.declared.templates.Source.TheVariants.{Operand}
 use Rattle.conversion_model.specs.Types.{is_own}
 use Rattle.conversion_model.specs.Templates.{Template}
 use Rattle.conversion_model.specs.Targets.{Shape}
-use Rattle.conversion_model.specs.Rows.{Pattern, Straight}
+use Rattle.conversion_model.specs.Rows.{Pattern}
 use Rattle.conversion_model.specs.Chosen.{places}
 use Rattle.pattern_model.specs.Drafts.{effect, gives, draft, when}
 use Rattle.pattern_model.specs.ArithRows.{kept_props, lowers}

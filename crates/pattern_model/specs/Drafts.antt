@@ -1,10 +1,10 @@
 -- How rows are written: the operations of a template one after another, in the order of the text.
 use Rattle.std.specs.Prelude.{ℕ, ◌+◌, ◌-◌, ◌%◌, ◌^◌, ◌==◌, nat_lt, Bool, true, false, ◌&&◌, List, [], ◌∷◌, length, Option, Some, None, ℤ, pos, negsuc, neg_ℤ, if◌then◌else◌, codes}
-use Rattle.plain_tree.specs.Types.{PlainType, Int, Index}
-use Rattle.plain_tree.specs.Attrs.{Entries, PlainAttr, Number, Numbers}
+use Rattle.plain_tree.specs.Types.{PlainType, Int}
+use Rattle.plain_tree.specs.Attrs.{Entries, Number, Numbers}
 use Rattle.conversion_model.specs.declared.templates.Source.{Source}
-use Rattle.conversion_model.specs.declared.templates.Source.TheVariants.{Operand, Made}
-use Rattle.conversion_model.specs.Templates.{Step, Template}
+use Rattle.conversion_model.specs.declared.templates.Source.TheVariants.{Made}
+use Rattle.conversion_model.specs.Templates.{Template}
 use Rattle.conversion_model.specs.Targets.{Shape}
 use Rattle.conversion_model.specs.Chosen.{with_step}
 

@@ -1,5 +1,5 @@
 -- The patterns of arith_expand: operations of arith that become simpler ones of arith, over operands a, b of one type.
-use Rattle.std.specs.Prelude.{ℕ, true, false, List, [], ◌∷◌, Option, Some, None, pos, codes}
+use Rattle.std.specs.Prelude.{ℕ, false, List, [], ◌∷◌, Option, None, pos, codes}
 use Rattle.plain_tree.specs.Types.{PlainType, Int}
 use Rattle.conversion_model.specs.declared.templates.Source.{Source}
 use Rattle.conversion_model.specs.declared.templates.Source.TheVariants.{Operand}

@@ -1,16 +1,15 @@
 -- The patterns of func_lowering: functions, calls, returns and casts, in converted types.
-use Rattle.std.specs.Prelude.{ℕ, true, false, ◌+◌, ◌==◌, Bool, ◌&&◌, ◌||◌, not, List, [], ◌∷◌, ◌++◌, map, length, filter, Option, Some, None, ℤ, pos, if◌then◌else◌, codes}
+use Rattle.std.specs.Prelude.{ℕ, true, false, ◌+◌, Bool, List, [], ◌∷◌, ◌++◌, map, length, Option, Some, None, pos, if◌then◌else◌, codes}
 use Rattle.std.specs.Str.{bytes_eq}
 use Rattle.tree_model.specs.declared.type_tree.Dim.{Dim}
-use Rattle.plain_tree.specs.Types.{PlainType, Memref, Func, Ptr, Array, Struct, types_in, types_of, same_type}
-use Rattle.plain_tree.specs.Attrs.{Entries, PlainAttr, OfType, Text, Dialect, Symbol, entry}
+use Rattle.plain_tree.specs.Types.{PlainType, Memref, Func, Ptr, Struct, types_in, types_of, same_type}
+use Rattle.plain_tree.specs.Attrs.{Entries, PlainAttr, OfType, Dialect, entry}
 use Rattle.conversion_model.specs.declared.templates.Source.{Source}
-use Rattle.conversion_model.specs.declared.templates.Source.TheVariants.{Operand, Made}
-use Rattle.conversion_model.specs.Types.{becomes, descriptor, number_type, converted_type, signature, parameters}
-use Rattle.conversion_model.specs.Templates.{Step, Template}
+use Rattle.conversion_model.specs.declared.templates.Source.TheVariants.{Operand}
+use Rattle.conversion_model.specs.Types.{becomes, descriptor, number_type, converted_type, signature}
+use Rattle.conversion_model.specs.Templates.{Template}
 use Rattle.conversion_model.specs.Targets.{Shape}
-use Rattle.conversion_model.specs.Rows.{Pattern, Straight, Framing, Frame, Part}
-use Rattle.conversion_model.specs.Chosen.{and_then, places, with_step}
+use Rattle.conversion_model.specs.Rows.{Pattern, Framing, Frame, Part}
 use Rattle.pattern_model.specs.Drafts.{Draft, value, effect, gives, draft, is_plain, when}
 use Rattle.pattern_model.specs.ArithRows.{lowers, all_types, kept_props}
 use Rattle.pattern_model.specs.MemrefRows.{extract, insert, undef}

@@ -1,15 +1,15 @@
 -- The patterns of memref_lowering: memrefs as their descriptors. All numbers have the type that stands for `index`.
-use Rattle.std.specs.Prelude.{ℕ, zero, suc, ◌+◌, ◌==◌, nat_le, Bool, not, ◌&&◌, List, [], ◌∷◌, ◌++◌, length, Option, Some, None, ℤ, pos, negsuc, ◌+ℤ◌, if◌then◌else◌, codes}
+use Rattle.std.specs.Prelude.{ℕ, ◌+◌, ◌==◌, nat_le, List, [], ◌∷◌, length, Option, Some, None, ℤ, pos, negsuc, ◌+ℤ◌, if◌then◌else◌, codes}
 use Rattle.tree_model.specs.declared.type_tree.Dim.{Dim}
 use Rattle.tree_model.specs.declared.type_tree.Dim.TheVariants.{Fixed, Dynamic}
-use Rattle.plain_tree.specs.Types.{PlainType, Int, Memref, Ptr, same_type}
+use Rattle.plain_tree.specs.Types.{PlainType, Int, Memref, Ptr}
 use Rattle.plain_tree.specs.Attrs.{Entries, PlainAttr, Number, Numbers, Symbol, OfType, entry}
 use Rattle.conversion_model.specs.declared.templates.Source.{Source}
-use Rattle.conversion_model.specs.declared.templates.Source.TheVariants.{Operand, Made}
+use Rattle.conversion_model.specs.declared.templates.Source.TheVariants.{Operand}
 use Rattle.conversion_model.specs.Types.{becomes, descriptor, number_type}
 use Rattle.conversion_model.specs.Templates.{Template}
 use Rattle.conversion_model.specs.Targets.{Shape}
-use Rattle.conversion_model.specs.Rows.{Pattern, Straight}
+use Rattle.conversion_model.specs.Rows.{Pattern}
 use Rattle.pattern_model.specs.Drafts.{Draft, value, effect, gives, draft, predicate, constant_value, is_plain, when}
 use Rattle.pattern_model.specs.ArithRows.{lowers}
 
@@ -175,7 +175,7 @@ place_of bits m k dims element next =
     offset_of bits m k 0 dims a λ b.
     widened (codes "llvm.sext") bits b λ s.
     value (codes "llvm.getelementptr") (p ∷ s ∷ [])
-      ((codes "elem_type", OfType (becomes bits element)) ∷ (codes "rawConstantIndices", Numbers 32 (negsuc 2147483647 ∷ [])) ∷ []) Ptr next
+    ((codes "elem_type", OfType (becomes bits element)) ∷ (codes "rawConstantIndices", Numbers 32 (negsuc 2147483647 ∷ [])) ∷ []) Ptr next
 
 abbrev pub load_by : ℕ → List PlainType → Option Template
 load_by bits (Memref dims element ∷ indices) = when (length indices == length dims) (draft (

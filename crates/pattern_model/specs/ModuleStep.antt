@@ -1,12 +1,12 @@
 -- The step of a pass on the module: declarations of the allocation functions that calls name.
-use Rattle.std.specs.Prelude.{ℕ, Bool, true, false, not, ◌&&◌, List, [], ◌∷◌, ◌++◌, Option, Some, None, if◌then◌else◌, codes}
+use Rattle.std.specs.Prelude.{ℕ, Bool, false, not, ◌&&◌, List, [], ◌∷◌, ◌++◌, Option, Some, None, if◌then◌else◌, codes}
 use Rattle.std.specs.List.{list_any}
 use Rattle.std.specs.Str.{bytes_eq}
 use Rattle.pipeline_text.specs.declared.pass.PassName.{PassName}
 use Rattle.pipeline_text.specs.declared.pass.PassName.TheVariants.{FinalizeMemrefToLlvm, FullConvertToLlvm}
 use Rattle.plain_tree.specs.Types.{PlainType, Int, Ptr, Void, LlvmFunc, types_in}
-use Rattle.plain_tree.specs.Attrs.{Entries, PlainAttr, Text, Symbol, OfType, Dialect, entry}
-use Rattle.plain_tree.specs.Ops.{Kind, Op, op, Regions, end_of_regions, region, end_of_blocks}
+use Rattle.plain_tree.specs.Attrs.{Entries, PlainAttr, Text, Symbol, entry}
+use Rattle.plain_tree.specs.Ops.{Op, op, end_of_regions, region, end_of_blocks}
 use Rattle.conversion_model.specs.Uses.{operations}
 use Rattle.pattern_model.specs.FuncRows.{function_props}
 
@@ -44,8 +44,8 @@ declared name t funcs = if is_called name funcs && not (is_there name funcs) the
 abbrev pub allocators_declared : List Op → List Op
 allocators_declared funcs =
     declared (codes "aligned_alloc") (LlvmFunc Ptr (types_in (Int 64 ∷ Int 64 ∷ [])))
-      (declared (codes "free") (LlvmFunc Void (types_in (Ptr ∷ [])))
-        (declared (codes "malloc") (LlvmFunc Ptr (types_in (Int 64 ∷ []))) funcs))
+    (declared (codes "free") (LlvmFunc Void (types_in (Ptr ∷ [])))
+    (declared (codes "malloc") (LlvmFunc Ptr (types_in (Int 64 ∷ []))) funcs))
 
 -- of finalize-memref-to-llvm and full-convert-to-llvm; other passes have none
 abbrev pub module_step : PassName → List Op → List Op

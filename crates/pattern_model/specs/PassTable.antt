@@ -1,9 +1,9 @@
 -- The passes as data, and what a pass makes of one function.
-use Rattle.std.specs.Prelude.{ℕ, ◌+◌, Bool, true, false, List, [], ◌∷◌, ◌++◌, Option, Some, None, Result, Ok, Err, if◌then◌else◌, codes}
+use Rattle.std.specs.Prelude.{ℕ, ◌+◌, Bool, true, false, List, [], ◌∷◌, Option, Some, None, Result, Ok, if◌then◌else◌, codes}
 use Rattle.pipeline_text.specs.declared.pass.PassName.{PassName}
 use Rattle.pipeline_text.specs.declared.pass.PassName.TheVariants.{ConvertScfToCf, ArithExpand, ConvertArithToLlvm, ConvertCfToLlvm, ConvertFuncToLlvm, FinalizeMemrefToLlvm, ReconcileUnrealizedCasts, FullConvertToLlvm}
 use Rattle.plain_tree.specs.Ops.{Op}
-use Rattle.conversion_model.specs.Targets.{Target, Legality, Legal, Dynamic, Illegal, Unknown, TypesOwn, Partial, Full}
+use Rattle.conversion_model.specs.Targets.{Target, Legal, Dynamic, Illegal, Unknown, TypesOwn, Partial, Full}
 use Rattle.conversion_model.specs.Rows.{Pattern}
 use Rattle.conversion_model.specs.Chosen.{has_root}
 use Rattle.conversion_model.specs.Reconciled.{reconciled}
@@ -13,7 +13,7 @@ use Rattle.pattern_model.specs.ExpandRows.{expand_set}
 use Rattle.pattern_model.specs.ArithRows.{arith_set}
 use Rattle.pattern_model.specs.CfRows.{cf_set}
 use Rattle.pattern_model.specs.MemrefRows.{memref_set}
-use Rattle.pattern_model.specs.FuncRows.{func_set, func_set_without_cast}
+use Rattle.pattern_model.specs.FuncRows.{func_set_without_cast}
 use Rattle.pattern_model.specs.Tables.{all_sets}
 use Rattle.pattern_model.specs.OperationNames.{is_among, is_known, scf_roots, arith_names, cf_names, func_names, memref_names, llvm_names, llvm_branches}
 

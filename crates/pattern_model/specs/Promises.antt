@@ -1,6 +1,5 @@
 -- What the laws of the patterns promise.
-use Rattle.std.specs.Prelude.{◌≡◌, ℕ, Bool, true, List, length, map}
-use Rattle.std.specs.List.{list_all}
+use Rattle.std.specs.Prelude.{◌≡◌, ℕ, length, map}
 use Rattle.pipeline_text.specs.declared.pass.PassName.{PassName}
 use Rattle.plain_tree.specs.Ops.{Op}
 use Rattle.conversion_model.specs.Conversion.{Supply}

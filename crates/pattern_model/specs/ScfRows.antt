@@ -1,9 +1,9 @@
 -- The patterns of scf_lowering: the block is cut behind the operation into head and rest, and region blocks go between.
-use Rattle.std.specs.Prelude.{ℕ, true, false, ◌+◌, ◌*◌, ◌==◌, List, [], ◌∷◌, map, length, Option, Some, None, ℤ, pos, if◌then◌else◌, codes}
+use Rattle.std.specs.Prelude.{ℕ, false, ◌+◌, ◌*◌, ◌==◌, List, [], ◌∷◌, map, length, Option, Some, None, ℤ, pos, if◌then◌else◌, codes}
 use Rattle.plain_tree.specs.Types.{PlainType, Int, Index}
 use Rattle.plain_tree.specs.Attrs.{Entries, PlainAttr, Number, entry}
 use Rattle.plain_tree.specs.Attrs as attr
-use Rattle.plain_tree.specs.Ops.{Kind, Op, op, Ops, end_of_ops, more_ops, Regions, end_of_regions, region, Blocks, end_of_blocks, block, Values}
+use Rattle.plain_tree.specs.Ops.{Op, op, Ops, end_of_ops, more_ops, Regions, end_of_regions, region, Blocks, end_of_blocks, block, Values}
 use Rattle.conversion_model.specs.Targets.{name_of, operands_of, goes_with_holder}
 use Rattle.conversion_model.specs.Rows.{Pattern, Cutting, Numbers, Piece, Product, Opens, Held, Stands}
 use Rattle.pattern_model.specs.Drafts.{predicate, sizes, constant_value}
@@ -167,7 +167,7 @@ abbrev pub tests : Numbers → (ℕ → PlainType) → ℕ → ℕ → List ℤ 
 tests new type_of index j (number ∷ []) (case ∷ []) default more = test_pieces new type_of index j number case.label default more
 tests new type_of index j (number ∷ numbers) (case ∷ cases) default more =
     test_pieces new type_of index j number case.label (new.label (j + 1))
-      (Opens (new.label (j + 1)) [] ∷ tests new type_of index (j + 1) numbers cases default more)
+    (Opens (new.label (j + 1)) [] ∷ tests new type_of index (j + 1) numbers cases default more)
 tests new type_of index j _ _ default more = more
 
 -- the blocks of the cases, in regions from the r-th on
@@ -182,7 +182,7 @@ head_pieces new type_of index numbers cases default more = tests new type_of ind
 abbrev pub switch_pieces : Numbers → (ℕ → PlainType) → Values → ℕ → List ℤ → Single → List Single → List Piece
 switch_pieces new type_of results index numbers default cases =
     head_pieces new type_of index numbers cases default.label
-      (case_pieces type_of (new.label 0) 1 cases (yields_to type_of (new.label 0) 0 default (Opens (new.label 0) results ∷ [])))
+    (case_pieces type_of (new.label 0) 1 cases (yields_to type_of (new.label 0) 0 default (Opens (new.label 0) results ∷ [])))
 
 abbrev pub switch_blocks : Numbers → (ℕ → PlainType) → Values → ℕ → List ℤ → Option (List Single) → Option (List Piece)
 switch_blocks new type_of results index numbers (Some (default ∷ cases)) =

@@ -1,5 +1,5 @@
 -- All patterns, set by set.
-use Rattle.std.specs.Prelude.{ℕ, List, [], ◌∷◌, ◌++◌, map, codes}
+use Rattle.std.specs.Prelude.{ℕ, List, ◌∷◌, ◌++◌}
 use Rattle.conversion_model.specs.Rows.{Pattern}
 use Rattle.pattern_model.specs.ScfRows.{scf_set}
 use Rattle.pattern_model.specs.ExpandRows.{expand_set}

@@ -6,7 +6,7 @@ use Rattle.tree_model.specs.declared.attr_tree.AttrTree.{AttrTree, roll-AttrTree
 use Rattle.tree_model.specs.declared.attr_tree.AttrTree as attr
 use Rattle.tree_model.specs.declared.attr_tree.AttrTree.TheVariants as attr_parts
 use Rattle.tree_model.specs.declared.attr_tree.AttrTree.TheOpen.{AttrTree-F}
-use Rattle.tree_model.specs.declared.attr_tree.AttrTree.TheFolds.{fold-AttrTree, fold-roll-AttrTree}
+use Rattle.tree_model.specs.declared.attr_tree.AttrTree.TheFolds.{fold-roll-AttrTree}
 use Rattle.plain_tree.specs.Types.{plain_type, type_tree}
 use Rattle.plain_tree.specs.Attrs.{PlainAttr, PlainAttrs, PlainDict, Unit, Number, Text, Attrs, Dict, OfType, Symbol, Numbers, Dialect, end_of_attrs, more_attrs, end_of_entries, more_entries, Entries, attr_tree, attr_trees, dict_tree, attrs_in, dict_in, entries_tree, plain_attr, plain_at, plain_entries}
 use Rattle.plain_tree.proofs.TypeOpens.{plain_again}

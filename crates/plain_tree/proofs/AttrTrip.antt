@@ -4,7 +4,7 @@ use Rattle.tree_model.specs.declared.attr_tree.AttrTree.{AttrTree, roll-AttrTree
 use Rattle.tree_model.specs.declared.attr_tree.AttrTree as attr
 use Rattle.tree_model.specs.declared.attr_tree.AttrTree.TheVariants as attr_parts
 use Rattle.tree_model.specs.declared.attr_tree.AttrTree.TheOpen.{AttrTree-F}
-use Rattle.tree_model.specs.declared.attr_tree.AttrTree.TheFolds.{fold-AttrTree, ind-AttrTree, fold-roll-AttrTree}
+use Rattle.tree_model.specs.declared.attr_tree.AttrTree.TheFolds.{ind-AttrTree, fold-roll-AttrTree}
 use Rattle.plain_tree.specs.Attrs.{PlainAttr, attr_tree, attr_trees, attrs_in, dict_in, dict_tree, plain_attr, plain_at, plain_entries, entries_tree}
 use Rattle.plain_tree.proofs.TypeTrip.{type_trip}
 

@@ -1,12 +1,10 @@
 -- The plain form of an operation, block and region that is rolled up, and of the tree of a plain operation.
-use Rattle.std.proofs.Common.{◌≡◌, ℕ, List, [], ◌∷◌, map, refl, sym, ap, ◌∙◌}
-use Rattle.tree_model.specs.declared.type_tree.TypeTree.{TypeTree}
+use Rattle.std.proofs.Common.{◌≡◌, ℕ, List, [], ◌∷◌, map, refl, ap, ◌∙◌}
 use Rattle.tree_model.specs.declared.op_tree.OpTree.{OpTree, roll-OpTree}
 use Rattle.tree_model.specs.declared.op_tree.BlockTree.{BlockTree, roll-BlockTree}
 use Rattle.tree_model.specs.declared.op_tree.RegionTree.{RegionTree, roll-RegionTree}
 use Rattle.tree_model.specs.declared.op_tree.BlockTree.TheOpen.{OpTree-F, BlockTree-F, RegionTree-F}
-use Rattle.tree_model.specs.declared.op_tree.BlockTree.TheFolds.{fold-OpTree, fold-BlockTree, fold-RegionTree, fold-roll-OpTree, fold-roll-BlockTree, fold-roll-RegionTree}
-use Rattle.plain_tree.specs.Types.{PlainType, type_tree, plain_type}
+use Rattle.tree_model.specs.declared.op_tree.BlockTree.TheFolds.{fold-BlockTree, fold-RegionTree, fold-roll-OpTree, fold-roll-BlockTree, fold-roll-RegionTree}
 use Rattle.plain_tree.specs.Attrs.{Entries, entries_tree, plain_entries}
 use Rattle.plain_tree.specs.Ops.{Kind, Op, op, Ops, end_of_ops, more_ops, Regions, end_of_regions, region, Blocks, end_of_blocks, block, PlainBlock, Values, block_at, op_at, region_at, blocks_in, ops_in, regions_in, op_tree, op_trees, region_trees, block_trees, plain_op, plain_values, values_tree}
 use Rattle.plain_tree.proofs.TypeOpens.{plain_again}
@@ -48,7 +46,7 @@ mutual
   pub op_again : (o : Op) → plain_op (op_tree o) ≡ o
   op_again (op k results operands regions successors) =
       plain-roll _ ∙ same_op k (plain_entries (entries_tree k.props)) (plain_entries (entries_tree k.attrs)) results (plain_values (values_tree results)) operands (regions_in (map plain_region (region_trees regions))) regions successors
-        (entries_again k.props) (entries_again k.attrs) (values_again results) (regions_again regions)
+      (entries_again k.props) (entries_again k.attrs) (values_again results) (regions_again regions)
 
   pub ops_again : (os : Ops) → ops_in (map plain_op (op_trees os)) ≡ os
   ops_again end_of_ops = refl

@@ -1,17 +1,15 @@
 -- An operation is the tree of its plain form.
-use Rattle.std.proofs.Common.{◌≡◌, ℕ, List, [], ◌∷◌, map, refl, sym, ap, ◌∙◌, subst}
+use Rattle.std.proofs.Common.{◌≡◌, ℕ, List, [], ◌∷◌, map, refl, ap, ◌∙◌, subst}
 use Rattle.tree_model.specs.declared.type_tree.TypeTree.{TypeTree}
-use Rattle.tree_model.specs.declared.attr_tree.AttrTree.{AttrTree}
 use Rattle.tree_model.specs.declared.op_tree.OpTree.{OpTree, roll-OpTree, map-OpTree}
 use Rattle.tree_model.specs.declared.op_tree.BlockTree.{BlockTree, roll-BlockTree, map-BlockTree}
 use Rattle.tree_model.specs.declared.op_tree.RegionTree.{RegionTree, roll-RegionTree, map-RegionTree}
 use Rattle.tree_model.specs.declared.op_tree.BlockTree.TheOpen.{OpTree-F, BlockTree-F, RegionTree-F}
-use Rattle.tree_model.specs.declared.op_tree.BlockTree.TheFolds.{fold-OpTree, fold-BlockTree, fold-RegionTree, ind-OpTree, fold-roll-OpTree, fold-roll-BlockTree, fold-roll-RegionTree}
+use Rattle.tree_model.specs.declared.op_tree.BlockTree.TheFolds.{fold-BlockTree, fold-RegionTree, ind-OpTree, fold-roll-OpTree, fold-roll-BlockTree, fold-roll-RegionTree}
 use Rattle.tree_model.specs.declared.op_tree.FuncTree.{FuncTree}
 use Rattle.tree_model.specs.declared.op_tree.ModuleTree.{ModuleTree}
-use Rattle.plain_tree.specs.Types.{PlainType, type_tree, plain_type}
 use Rattle.plain_tree.specs.Attrs.{entries_tree, plain_entries}
-use Rattle.plain_tree.specs.Ops.{Op, op, Ops, PlainBlock, Blocks, block_at, op_at, region_at, blocks_in, ops_in, regions_in, op_tree, op_trees, region_trees, block_trees, plain_op, plain_values, values_tree, plain_func, func_tree, plain_module, module_tree}
+use Rattle.plain_tree.specs.Ops.{Op, PlainBlock, Blocks, block_at, op_at, region_at, blocks_in, ops_in, regions_in, op_tree, op_trees, region_trees, block_trees, plain_op, plain_values, values_tree, plain_func, func_tree, plain_module, module_tree}
 use Rattle.plain_tree.proofs.TypeTrip.{type_trip}
 use Rattle.plain_tree.proofs.AttrTrip.{entries_trip}
 

@@ -1,11 +1,11 @@
 -- The plain form of each type that is written out, and of the tree of a plain type.
-use Rattle.std.proofs.Common.{◌≡◌, ℕ, List, [], ◌∷◌, map, refl, sym, ap, ◌∙◌}
+use Rattle.std.proofs.Common.{◌≡◌, ℕ, List, map, refl, sym, ap, ◌∙◌}
 use Rattle.tree_model.specs.declared.type_tree.Dim.{Dim}
 use Rattle.tree_model.specs.declared.type_tree.TypeTree.{TypeTree, roll-TypeTree}
 use Rattle.tree_model.specs.declared.type_tree.TypeTree as type
 use Rattle.tree_model.specs.declared.type_tree.TypeTree.TheVariants as type_parts
 use Rattle.tree_model.specs.declared.type_tree.TypeTree.TheOpen.{TypeTree-F}
-use Rattle.tree_model.specs.declared.type_tree.TypeTree.TheFolds.{fold-TypeTree, fold-roll-TypeTree}
+use Rattle.tree_model.specs.declared.type_tree.TypeTree.TheFolds.{fold-roll-TypeTree}
 use Rattle.plain_tree.specs.Types.{PlainType, PlainTypes, Int, Index, Memref, Func, Ptr, Void, Struct, Array, LlvmFunc, end_of_types, more_types, type_tree, type_trees, types_in, plain_type, plain_at}
 
 pub plain-Int : (width : ℕ) → plain_type (type.Int width) ≡ Int width

@@ -1,10 +1,10 @@
 -- A type is the tree of its plain form.
-use Rattle.std.proofs.Common.{◌≡◌, ℕ, List, [], ◌∷◌, map, refl, sym, ap, ◌∙◌, subst}
+use Rattle.std.proofs.Common.{◌≡◌, List, [], ◌∷◌, map, refl, sym, ap, ◌∙◌, subst}
 use Rattle.tree_model.specs.declared.type_tree.TypeTree.{TypeTree, roll-TypeTree, map-TypeTree}
 use Rattle.tree_model.specs.declared.type_tree.TypeTree as type
 use Rattle.tree_model.specs.declared.type_tree.TypeTree.TheVariants as type_parts
 use Rattle.tree_model.specs.declared.type_tree.TypeTree.TheOpen.{TypeTree-F}
-use Rattle.tree_model.specs.declared.type_tree.TypeTree.TheFolds.{fold-TypeTree, ind-TypeTree, fold-roll-TypeTree}
+use Rattle.tree_model.specs.declared.type_tree.TypeTree.TheFolds.{ind-TypeTree, fold-roll-TypeTree}
 use Rattle.plain_tree.specs.Types.{PlainType, type_tree, type_trees, types_in, plain_type, plain_at}
 
 abbrev pub TypeTrip : TypeTree → Type 0

@@ -1,5 +1,5 @@
 -- Operations as plain data, on which definitions recurse.
-use Rattle.std.specs.Prelude.{ℕ, ◌+◌, ◌==◌, List, [], ◌∷◌, ◌++◌, map, if◌then◌else◌}
+use Rattle.std.specs.Prelude.{ℕ, List, [], ◌∷◌, map}
 use Rattle.tree_model.specs.declared.type_tree.TypeTree.{TypeTree}
 use Rattle.tree_model.specs.declared.op_tree.OpTree.{OpTree, roll-OpTree}
 use Rattle.tree_model.specs.declared.op_tree.BlockTree.{BlockTree, roll-BlockTree}
@@ -8,7 +8,7 @@ use Rattle.tree_model.specs.declared.op_tree.BlockTree.TheOpen.{OpTree-F, BlockT
 use Rattle.tree_model.specs.declared.op_tree.BlockTree.TheFolds.{fold-OpTree}
 use Rattle.tree_model.specs.declared.op_tree.FuncTree.{FuncTree}
 use Rattle.tree_model.specs.declared.op_tree.ModuleTree.{ModuleTree}
-use Rattle.plain_tree.specs.Types.{PlainType, Void, type_tree, plain_type}
+use Rattle.plain_tree.specs.Types.{PlainType, type_tree, plain_type}
 use Rattle.plain_tree.specs.Attrs.{Entries, entries_tree, plain_entries}
 
 -- values with their types
