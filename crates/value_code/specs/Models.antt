@@ -1,5 +1,5 @@
 -- What the values of the code stand for.
-use Rattle.std.specs.Prelude.{ℕ, List, map}
+use Rattle.std.specs.Prelude.{ℕ, List, map, Option, Some, None}
 use Rattle.number_model.specs.Answers.{Answer, with_answer}
 use Rattle.number_model.specs.Answers.{Answer as answer}
 use Rattle.operation_model.specs.Values as model
@@ -35,3 +35,8 @@ place_of p = record { buffer = p.buffer; offset = p.offset }
 
 abbrev pub place_looked_of : Looked Place → Answer model.Place
 place_looked_of l = answer_of place_of l
+
+-- a part that is there, else outside
+abbrev pub part_of : Option Value → Answer model.Value
+part_of None = answer.Outside
+part_of (Some v) = answer.Gives (value_of v)

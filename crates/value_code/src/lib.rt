@@ -2,7 +2,9 @@
 #![tactic(auto)]
 
 mod look;
+mod parts;
 mod value;
 
 pub use look::{Looked, number, place_of};
+pub use parts::part;
 pub use value::{Place, Value, ValueList, copy_value, copy_values};
