@@ -1,5 +1,5 @@
 -- What the values of the code stand for.
-use Rattle.std.specs.Prelude.{ℕ, List, map, Option, Some, None}
+use Rattle.std.specs.Prelude.{ℕ, List, [], ◌∷◌, map, Option, Some, None}
 use Rattle.number_model.specs.Answers.{Answer, with_answer}
 use Rattle.number_model.specs.Answers.{Answer as answer}
 use Rattle.operation_model.specs.Values as model
@@ -40,3 +40,7 @@ place_looked_of l = answer_of place_of l
 abbrev pub part_of : Option Value → Answer model.Value
 part_of None = answer.Outside
 part_of (Some v) = answer.Gives (value_of v)
+
+-- an integer as the one result
+abbrev pub integer_of : Looked ℕ → Answer (List model.Value)
+integer_of l = answer_of (λ n. model.Integer n ∷ []) l

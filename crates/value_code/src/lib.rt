@@ -3,8 +3,10 @@
 
 mod look;
 mod parts;
+mod pures;
 mod value;
 
 pub use look::{Looked, number, place_of};
 pub use parts::part;
+pub use pures::two_numbers;
 pub use value::{Place, Value, ValueList, copy_value, copy_values};
