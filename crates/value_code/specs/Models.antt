@@ -1,5 +1,5 @@
 -- What the values of the code stand for.
-use Rattle.std.specs.Prelude.{ℕ, List, [], ◌∷◌, map, Option, Some, None}
+use Rattle.std.specs.Prelude.{ℕ, Bool, List, [], ◌∷◌, map, Option, Some, None}
 use Rattle.number_model.specs.Answers.{Answer, with_answer}
 use Rattle.number_model.specs.Answers.{Answer as answer}
 use Rattle.operation_model.specs.Values as model
@@ -44,3 +44,6 @@ part_of (Some v) = answer.Gives (value_of v)
 -- an integer as the one result
 abbrev pub integer_of : Looked ℕ → Answer (List model.Value)
 integer_of l = answer_of (λ n. model.Integer n ∷ []) l
+
+abbrev pub truth_of : Looked Bool → Answer Bool
+truth_of l = answer_of (λ b. b) l

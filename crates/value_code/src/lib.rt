@@ -8,5 +8,5 @@ mod value;
 
 pub use look::{Looked, number, place_of};
 pub use parts::part;
-pub use pures::two_numbers;
+pub use pures::{compared, truth, two_numbers, with_width};
 pub use value::{Place, Value, ValueList, copy_value, copy_values};
