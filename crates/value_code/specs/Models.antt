@@ -47,3 +47,10 @@ integer_of l = answer_of (λ n. model.Integer n ∷ []) l
 
 abbrev pub truth_of : Looked Bool → Answer Bool
 truth_of l = answer_of (λ b. b) l
+
+-- a place as a pointer to it
+abbrev pub pointer_at : Place → model.Value
+pointer_at p = model.Pointer p.buffer p.offset
+
+abbrev pub pointer_of : Looked Place → Answer (List model.Value)
+pointer_of l = answer_of (λ p. pointer_at p ∷ []) l

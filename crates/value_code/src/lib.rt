@@ -3,10 +3,12 @@
 
 mod look;
 mod parts;
+mod pointers;
 mod pures;
 mod value;
 
 pub use look::{Looked, number, place_of};
-pub use parts::part;
+pub use parts::{part, part_at};
+pub use pointers::{bytes_of, move_pointer, moved_on};
 pub use pures::{compared, truth, two_numbers, with_width};
 pub use value::{Place, Value, ValueList, copy_value, copy_values};

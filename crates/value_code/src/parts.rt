@@ -17,3 +17,17 @@ pub fn part(v: &Value, i: u64) -> Option<&Value>
         Value::Integer(_) | Value::Pointer(_, _) | Value::Unset => None,
     }
 }
+
+/// The part at a path of fields and places.
+pub fn part_at<'a>(path: &[u64], v: &'a Value) -> Option<&'a Value>
+    ensures { part_of (option_copied result) ≡ model.part_at path.now (value_of v.now) }
+{
+    let mut at = v;
+    for i in path {
+        match part(at, *i) {
+            Some(inner) => at = inner,
+            None => return None,
+        }
+    }
+    Some(at)
+}
