@@ -1,8 +1,10 @@
 -- What the values of the code stand for.
-use Rattle.std.specs.Prelude.{ℕ, Bool, List, [], ◌∷◌, map, Option, Some, None}
-use Rattle.number_model.specs.Answers.{Answer, with_answer}
+use Rattle.std.specs.Prelude.{ℕ, Bool, not, nat_lt, List, [], ◌∷◌, map, Option, Some, None}
+use Rattle.number_model.specs.Answers.{Answer, undefined_if, with_answer}
 use Rattle.number_model.specs.Answers.{Answer as answer}
 use Rattle.operation_model.specs.Values as model
+use Rattle.operation_model.specs.Pures.{one}
+use Rattle.std.proofs.Common.{Bor}
 use Rattle.value_code.specs.declared.value.Value.{Value}
 use Rattle.value_code.specs.declared.value.Value.TheOpen.{Value-F}
 use Rattle.value_code.specs.declared.value.Value.TheFolds.{fold-Value}
@@ -54,3 +56,11 @@ pointer_at p = model.Pointer p.buffer p.offset
 
 abbrev pub pointer_of : Looked Place → Answer (List model.Value)
 pointer_of l = answer_of (λ p. pointer_at p ∷ []) l
+
+-- the value behind a reference as the one result
+abbrev pub values_behind : Looked (Bor Value) → Answer (List model.Value)
+values_behind l = answer_of (λ r. value_of r.now ∷ []) l
+
+-- the size of a memref of this rank at a dimension
+abbrev pub size_of : ℕ → ℕ → model.Value → Answer (List model.Value)
+size_of rank i m = undefined_if (not (nat_lt i rank)) (with_answer one (model.part_at (model.size_path i) m))
