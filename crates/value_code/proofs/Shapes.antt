@@ -1,12 +1,11 @@
 -- What each kind of value of the code stands for.
-use Rattle.std.proofs.Common.{◌≡◌, ℕ, zero, suc, List, [], ◌∷◌, map, refl, sym, ap, ◌∙◌}
+use Rattle.std.proofs.Common.{◌≡◌, ℕ, zero, suc, List, [], ◌∷◌, refl, sym, ap, ◌∙◌}
 use Rattle.std.specs.List.{slice_get}
 use Rattle.number_model.specs.Answers.{and_then, present}
 use Rattle.operation_model.specs.Values as model
 use Rattle.value_code.specs.declared.value.Value.{Value, out-Value, map-Value, fold_out-Value}
 use Rattle.value_code.specs.declared.value.Value as value
 use Rattle.value_code.specs.declared.value.Value.TheVariants as parts
-use Rattle.value_code.specs.declared.value.Value.TheOpen.{Value-F}
 use Rattle.value_code.specs.declared.value.Value.TheFolds.{fold-Value}
 use Rattle.value_code.specs.Models.{part_of, value_at, value_of, values_of}
 

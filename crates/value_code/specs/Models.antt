@@ -4,7 +4,7 @@ use Rattle.number_model.specs.Answers.{Answer, undefined_if, with_answer}
 use Rattle.number_model.specs.Answers.{Answer as answer}
 use Rattle.operation_model.specs.Values as model
 use Rattle.operation_model.specs.Pures.{one}
-use Rattle.std.proofs.Common.{Bor}
+use Rattle.std.specs.Borrow.{Bor}
 use Rattle.value_code.specs.declared.value.Value.{Value}
 use Rattle.value_code.specs.declared.value.Value.TheOpen.{Value-F}
 use Rattle.value_code.specs.declared.value.Value.TheFolds.{fold-Value}

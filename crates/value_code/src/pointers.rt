@@ -14,7 +14,10 @@ pub fn moved_on(bytes: i128, p: Place) -> Place
     requires { unsigned_abs bytes ≤ 2 ^ 100 }
     ensures { pointer_at result ≡ model.moved_on bytes (stands_for p) }
 {
-    Place { buffer: p.buffer, offset: wrapped(64, p.offset as i128 + bytes) }
+    Place {
+        buffer: p.buffer,
+        offset: wrapped(64, p.offset as i128 + bytes),
+    }
 }
 
 /// So many elements of a number of bytes.

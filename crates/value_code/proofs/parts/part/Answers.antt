@@ -1,4 +1,4 @@
-use Rattle.std.proofs.Common.{◌≡◌, [], ◌∷◌, sym, ap, ◌∙◌}
+use Rattle.std.proofs.Common.{[], ◌∷◌, sym, ap, ◌∙◌}
 use Rattle.operation_model.specs.Values as model
 use Rattle.value_code.specs.Models.{part_of, value_of}
 use Rattle.value_code.proofs.Shapes.{part_is, value_of-Aggregate}
