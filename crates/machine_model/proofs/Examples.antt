@@ -1,7 +1,7 @@
 -- Worked examples of the world outside.
-use Rattle.std.proofs.Common.{◌≡◌, ℕ, List, [], ◌∷◌, refl}
+use Rattle.std.proofs.Common.{◌≡◌, ℕ, [], ◌∷◌, refl}
 use Rattle.std.specs.Prelude.{pos, negsuc}
-use Rattle.machine_model.specs.Worlds.{World, ExternalCall, answered, unanswered, told}
+use Rattle.machine_model.specs.Worlds.{ExternalCall, answered, unanswered, told}
 
 -- answers are taken modulo 2 to the width, and 0 where none is left
 three_answers : answered (8 ∷ 8 ∷ 1 ∷ []) (negsuc 0 ∷ pos 300 ∷ []) ≡ 255 ∷ 44 ∷ 0 ∷ []

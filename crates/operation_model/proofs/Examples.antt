@@ -1,15 +1,13 @@
 -- Worked examples of what operations do with their operands.
-use Rattle.std.proofs.Common.{◌≡◌, ℕ, List, [], ◌∷◌, None, Some, refl}
-use Rattle.std.specs.Prelude.{pos, codes}
-use Rattle.number_model.specs.Numbers.{wrapped}
-use Rattle.number_model.specs.Answers.{Answer, Gives, Undefined, Outside}
+use Rattle.std.proofs.Common.{◌≡◌, [], ◌∷◌, None, Some, refl}
+use Rattle.number_model.specs.Answers.{Gives, Undefined, Outside}
 use Rattle.number_model.specs.Arithmetic.{no_flags, Add, Below, Keep}
 use Rattle.operation_model.specs.Values.{Value, Integer, Pointer, Unset, together, descriptor}
-use Rattle.operation_model.specs.Pures.{Known, TwoNumbers, Compares, Resizes, Selects, Moves, TakesPart, PutsPart, MovesPointer, HasSizes, TakesSize, gives, element_place}
-use Rattle.operation_model.specs.Doings.{Doing, Ends, Jumps, Returns}
+use Rattle.operation_model.specs.Pures.{TwoNumbers, Compares, Resizes, Selects, Moves, TakesPart, PutsPart, MovesPointer, HasSizes, TakesSize, gives, element_place}
+use Rattle.operation_model.specs.Doings.{Jumps, Returns}
 use Rattle.operation_model.specs.Doings.{Doing as doing}
-use Rattle.operation_model.specs.Calling.{Bare, Together, spread, gathered, packed, unpacked}
-use Rattle.operation_model.specs.Forms.{Branch, BranchOn, Return}
+use Rattle.operation_model.specs.Calling.{Together, spread, gathered}
+use Rattle.operation_model.specs.Forms.{BranchOn, Return}
 use Rattle.operation_model.specs.Straight.{does, byte_size}
 
 -- Values

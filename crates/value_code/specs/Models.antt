@@ -1,8 +1,10 @@
 -- What the values of the code stand for.
-use Rattle.std.specs.Prelude.{ℕ, List, map}
-use Rattle.number_model.specs.Answers.{Answer, with_answer}
+use Rattle.std.specs.Prelude.{ℕ, Bool, not, nat_lt, List, [], ◌∷◌, map, Option, Some, None}
+use Rattle.number_model.specs.Answers.{Answer, undefined_if, with_answer}
 use Rattle.number_model.specs.Answers.{Answer as answer}
 use Rattle.operation_model.specs.Values as model
+use Rattle.operation_model.specs.Pures.{one}
+use Rattle.std.specs.Borrow.{Bor}
 use Rattle.value_code.specs.declared.value.Value.{Value}
 use Rattle.value_code.specs.declared.value.Value.TheOpen.{Value-F}
 use Rattle.value_code.specs.declared.value.Value.TheFolds.{fold-Value}
@@ -35,3 +37,30 @@ place_of p = record { buffer = p.buffer; offset = p.offset }
 
 abbrev pub place_looked_of : Looked Place → Answer model.Place
 place_looked_of l = answer_of place_of l
+
+-- a part that is there, else outside
+abbrev pub part_of : Option Value → Answer model.Value
+part_of None = answer.Outside
+part_of (Some v) = answer.Gives (value_of v)
+
+-- an integer as the one result
+abbrev pub integer_of : Looked ℕ → Answer (List model.Value)
+integer_of l = answer_of (λ n. model.Integer n ∷ []) l
+
+abbrev pub truth_of : Looked Bool → Answer Bool
+truth_of l = answer_of (λ b. b) l
+
+-- a place as a pointer to it
+abbrev pub pointer_at : Place → model.Value
+pointer_at p = model.Pointer p.buffer p.offset
+
+abbrev pub pointer_of : Looked Place → Answer (List model.Value)
+pointer_of l = answer_of (λ p. pointer_at p ∷ []) l
+
+-- the value behind a reference as the one result
+abbrev pub values_behind : Looked (Bor Value) → Answer (List model.Value)
+values_behind l = answer_of (λ r. value_of r.now ∷ []) l
+
+-- the size of a memref of this rank at a dimension
+abbrev pub size_of : ℕ → ℕ → model.Value → Answer (List model.Value)
+size_of rank i m = undefined_if (not (nat_lt i rank)) (with_answer one (model.part_at (model.size_path i) m))
