@@ -15,3 +15,4 @@ pub mod RenamedReconcile
 pub mod RenamedConversion
 pub mod FreshLaws
 pub mod UnusedLaws
+pub mod WrittenLaws

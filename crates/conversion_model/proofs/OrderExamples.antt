@@ -1,5 +1,5 @@
 -- Depth, order and the chosen derivation on the test set.
-use Rattle.std.specs.Prelude.{ℕ, ◌≡◌, refl, false, List, [], ◌∷◌, map, Option, Some, None, codes, Ok}
+use Rattle.std.specs.Prelude.{ℕ, ◌≡◌, refl, false, List, [], ◌∷◌, map, Option, Some, None, codes, Ok, Err}
 use Rattle.plain_tree.specs.Types.{PlainType, Int, Index, Ptr}
 use Rattle.conversion_model.specs.Templates.{Template}
 use Rattle.conversion_model.specs.Targets.{Target, Legal, Partial}
@@ -66,3 +66,9 @@ a_converts : conv test_pass 64 counted_up (func_of [] (plain (codes "t.a") ((0, 
     ≡ Ok (func_of [] (plain (codes "t.c") ((0, Int 32) ∷ []) [] ∷ plain (codes "t.x") [] (0 ∷ []) ∷ []))
 unfolding test_pass
 a_converts = refl
+
+-- where there is none, the conversion fails, and names the operation
+a_fails : conv (record { table = to_one (codes "t.a") (codes "t.c") 1 ∷ to_one (codes "t.a") (codes "t.b") 9 ∷ []; target = c_dynamic; mode = Partial; blocks = false }) 64 counted_up
+    (func_of [] (plain (codes "t.a") ((0, Int 32) ∷ []) [] ∷ []))
+    ≡ Err (record { number = 1; name = codes "t.a" })
+a_fails = refl

@@ -10,4 +10,5 @@ pub mod Reconciled
 pub mod Conversion
 pub mod Renamings
 pub mod Fresh
+pub mod Counts
 pub mod Promises

@@ -1,5 +1,6 @@
 //! Laws of conversion, each the contract of a function that does nothing.
 
+ghost use Rattle.conversion_model.specs.Counts.{WrittenOnce};
 ghost use Rattle.conversion_model.specs.Promises.{ConvertedIsOwn, NoCasts, NoPairBehind, NoPairLeft, NoUnusedCast, OwnTypes};
 
 /// The own types are those that the table maps to themselves, at each width, and each converted type is own.
@@ -19,4 +20,9 @@ pub fn law_reconciled()
     ensures pairs { NoPairLeft }
     ensures unused { NoUnusedCast }
     ensures behind { NoPairBehind }
+{}
+
+/// A template that is written down defines each result at most once, and each new number at most once.
+pub fn law_written_once()
+    ensures { WrittenOnce }
 {}
