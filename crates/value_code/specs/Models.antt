@@ -1,9 +1,9 @@
 -- What the values of the code stand for.
 use Rattle.std.specs.Prelude.{ℕ, Bool, not, nat_lt, List, [], ◌∷◌, map, Option, Some, None}
-use Rattle.number_model.specs.Answers.{Answer, undefined_if, with_answer}
+use Rattle.number_model.specs.Answers.{Answer, and_then, undefined_if, with_answer}
 use Rattle.number_model.specs.Answers.{Answer as answer}
 use Rattle.operation_model.specs.Values as model
-use Rattle.operation_model.specs.Pures.{one}
+use Rattle.operation_model.specs.Pures.{is_index, one}
 use Rattle.std.specs.Borrow.{Bor}
 use Rattle.value_code.specs.declared.value.Value.{Value}
 use Rattle.value_code.specs.declared.value.Value.TheOpen.{Value-F}
@@ -64,3 +64,16 @@ values_behind l = answer_of (λ r. value_of r.now ∷ []) l
 -- the size of a memref of this rank at a dimension
 abbrev pub size_of : ℕ → ℕ → model.Value → Answer (List model.Value)
 size_of rank i m = undefined_if (not (nat_lt i rank)) (with_answer one (model.part_at (model.size_path i) m))
+
+-- the part at a path as an integer
+abbrev pub number_in : List ℕ → model.Value → Answer ℕ
+number_in path m = and_then (model.part_at path m) model.number
+
+-- an index and the stride of its dimension
+abbrev pub index_and_stride : ℕ → model.Value → ℕ → model.Value → Answer (ℕ × ℕ)
+index_and_stride bits m k x =
+    and_then (model.number x) (λ i. and_then (number_in (model.size_path k) m) (λ size. and_then (number_in (model.stride_path k) m) (λ stride.
+    undefined_if (not (is_index bits i size)) (answer.Gives (i, stride)))))
+
+abbrev pub step_of : Looked (record { 0 : ℕ; 1 : ℕ }) → Answer (ℕ × ℕ)
+step_of l = answer_of (λ p. (p.0, p.1)) l

@@ -2,6 +2,7 @@
 #![tactic(auto)]
 
 mod choices;
+mod elements;
 mod look;
 mod parts;
 mod pointers;
