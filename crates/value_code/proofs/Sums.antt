@@ -1,6 +1,6 @@
 -- The sum of indices times strides, modulo 2^64.
 use Rattle.std.proofs.Common.{◌≡◌, ℕ, zero, suc, ◌+◌, ◌*◌, ◌-◌, ◌%◌, ◌^◌, ◌≤◌, List, [], ◌∷◌, Bool, true, false, refl, sym, ap, ◌∙◌, arith}
-use Rattle.std.proofs.Math.Nat.{add-mod}
+use Rattle.std.proofs.Math.Nat.{add-mod, mod-mod}
 use Rattle.std.proofs.Math.Pow.{mod-mod-pow}
 use Rattle.number_model.specs.Numbers.{signed, signed_below}
 use Rattle.number_model.specs.Answers.{Answer, Gives, and_then, undefined_if, with_answer}
@@ -65,3 +65,10 @@ module _ (bits : ℕ) (m : model.Value) where
       go h (Gives p) = h p
       go h answer.Undefined = refl
       go h answer.Outside = refl
+
+  -- one index more
+  pub one_index : bits ≤ 64 → (x : model.Value) (k sum next : ℕ) (p : ℕ × ℕ) (rest : List model.Value) → Gives p ≡ index_and_stride bits m k x → next ≡ (sum + p.0 * p.1) % 2 ^ 64
+    → with_answer (signed bits) (indexed bits m (k + 1) next rest) ≡ with_answer (signed bits) (indexed bits m k sum (x ∷ rest))
+  one_index le x k sum next p rest e f =
+      same_sum le rest (k + 1) next (sum + p.0 * p.1) (ap (λ n. n % 2 ^ 64) f ∙ mod-mod (sum + p.0 * p.1) (2 ^ 64))
+      ∙ sym (ap (λ a. with_answer (signed bits) (and_then a (λ after. indexed bits m (k + 1) after rest))) (index_is k sum x ∙ ap (λ a. and_then a (plus sum)) (sym e)))

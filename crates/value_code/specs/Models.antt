@@ -1,5 +1,6 @@
 -- What the values of the code stand for.
-use Rattle.std.specs.Prelude.{ℕ, Bool, not, nat_lt, List, [], ◌∷◌, map, Option, Some, None}
+use Rattle.std.specs.Prelude.{ℕ, ℤ, Bool, not, nat_lt, List, [], ◌∷◌, map, Option, Some, None}
+use Rattle.number_model.specs.Numbers.{signed}
 use Rattle.number_model.specs.Answers.{Answer, and_then, undefined_if, with_answer}
 use Rattle.number_model.specs.Answers.{Answer as answer}
 use Rattle.operation_model.specs.Values as model
@@ -77,3 +78,15 @@ index_and_stride bits m k x =
 
 abbrev pub step_of : Looked (record { 0 : ℕ; 1 : ℕ }) → Answer (ℕ × ℕ)
 step_of l = answer_of (λ p. (p.0, p.1)) l
+
+-- a sum as a signed number of this width
+abbrev pub sum_of : ℕ → Looked ℕ → Answer ℤ
+sum_of bits l = answer_of (signed bits) l
+
+-- the place of the aligned pointer of a memref
+abbrev pub aligned_place : model.Value → Answer model.Place
+aligned_place m = and_then (model.part_at model.aligned_path m) model.place_of
+
+-- a place as a pointer to it
+abbrev pub place_at : Looked Place → Answer model.Value
+place_at l = answer_of pointer_at l
