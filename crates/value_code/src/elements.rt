@@ -41,7 +41,11 @@ fn step(bits: u32, m: &Value, k: u64, x: &Value) -> Looked<(u64, u64)>
         Looked::Gives(i) => match number_at(&[3, k], m) {
             Looked::Gives(size) => match number_at(&[4, k], m) {
                 Looked::Gives(stride) => {
-                    if is_index(bits, i, size) { Looked::Gives((i, stride)) } else { Looked::Undefined }
+                    if is_index(bits, i, size) {
+                        Looked::Gives((i, stride))
+                    } else {
+                        Looked::Undefined
+                    }
                 }
                 Looked::Undefined => Looked::Undefined,
                 Looked::Outside => Looked::Outside,
@@ -88,7 +92,10 @@ pub fn element_place(bits: u32, size: u64, m: &Value, xs: &[Value]) -> Looked<Pl
     match aligned(m) {
         Looked::Gives(place) => match number_at(&[2], m) {
             Looked::Gives(offset) => match indexed(bits, m, offset, xs) {
-                Looked::Gives(sum) => Looked::Gives(moved_on(bytes_of(signed(bits, sum), size), place)),
+                Looked::Gives(sum) => Looked::Gives(moved_on(
+                    bytes_of(signed(bits, sum), size),
+                    place,
+                )),
                 Looked::Undefined => Looked::Undefined,
                 Looked::Outside => Looked::Outside,
             },

@@ -9,7 +9,7 @@ use Rattle.value_code.proofs.elements.indexed.Goals as goal
 pub loop-k-preserved : goal.loop-k-preserved
 loop-k-preserved c =
     one_index c.args.bits (value_of c.args.m.now) c.requires.high (value_of c.index-xs-k.result) c.loop-k.k c.loop-k.sum c.add_product-sum.result (c.in-Gives.i, c.in-Gives.stride) (values_of (drop (c.loop-k.k + 1) c.args.xs.now))
-      (ap step_of (sym c.in-Gives.is) ∙ c.step.ensures) c.add_product-sum.ensures
+    (ap step_of (sym c.in-Gives.is) ∙ c.step.ensures) c.add_product-sum.ensures
     ∙ ap (λ l. with_answer (signed c.args.bits) (model.indexed c.args.bits (value_of c.args.m.now) c.loop-k.k c.loop-k.sum (values_of l))) (sym front)
     ∙ c.loop-k.invariant
   where
