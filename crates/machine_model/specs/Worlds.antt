@@ -16,11 +16,6 @@ pub data Reply (State : Type 0) : Type 0 where
   Answers : List Value → State → Reply State
   Refuses : Stop → Reply State
 
--- a memory: its states, and what it replies
-pub record Memory : Type 1 where
-  pub State : Type 0
-  pub ask : Question → State → Reply State
-
 -- a call of an external function: its name, its arguments and its answers as signed numbers
 pub record ExternalCall : Type 0 where
   pub name : List ℕ
