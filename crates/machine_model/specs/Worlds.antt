@@ -2,7 +2,6 @@
 use Rattle.std.specs.Prelude.{◌≡◌, ℕ, List, [], ◌∷◌, ◌++◌, ℤ}
 use Rattle.number_model.specs.Numbers.{signed, wrapped}
 use Rattle.operation_model.specs.Values.{Value}
-use Rattle.operation_model.specs.Doings.{Question}
 
 -- why a run stops before its function returns: no fuel is left, it is undefined, it is outside of what has a meaning, or memory is short
 pub data Stop : Type 0 where
