@@ -77,10 +77,6 @@ abbrev pub first_blocks : Ops → Blocks
 first_blocks (Op form rs os ls (Region blocks more) rest) = blocks
 first_blocks _ = BlocksEnd
 
-abbrev pub types_at : TypeTree-F TypeTree → Option (List TypeTree)
-types_at (TypeTree-F.Struct fields) = Some fields
-types_at _ = None
-
 -- what an llvm function with this result shows: nothing for `void`, the fields of a struct of integers, else the one result
 abbrev pub llvm_outputs_at : ℕ → TypeTree → TypeTree-F TypeTree → Option (List ℕ)
 llvm_outputs_at bits t TypeTree-F.Void = Some []

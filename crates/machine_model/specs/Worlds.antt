@@ -2,7 +2,6 @@
 use Rattle.std.specs.Prelude.{◌≡◌, ℕ, List, [], ◌∷◌, ◌++◌, ℤ}
 use Rattle.number_model.specs.Numbers.{signed, wrapped}
 use Rattle.operation_model.specs.Values.{Value}
-use Rattle.operation_model.specs.Doings.{Question}
 
 -- why a run stops before its function returns: no fuel is left, it is undefined, it is outside of what has a meaning, or memory is short
 pub data Stop : Type 0 where
@@ -15,11 +14,6 @@ pub data Stop : Type 0 where
 pub data Reply (State : Type 0) : Type 0 where
   Answers : List Value → State → Reply State
   Refuses : Stop → Reply State
-
--- a memory: its states, and what it replies
-pub record Memory : Type 1 where
-  pub State : Type 0
-  pub ask : Question → State → Reply State
 
 -- a call of an external function: its name, its arguments and its answers as signed numbers
 pub record ExternalCall : Type 0 where

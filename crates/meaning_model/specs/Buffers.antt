@@ -4,7 +4,7 @@ use Rattle.std.specs.Int.{div_ceil}
 use Rattle.operation_model.specs.Values.{Integer, Pointer, Place}
 use Rattle.operation_model.specs.Doings.{Question, Load, Store, Allocate, Free}
 use Rattle.operation_model.specs.Straight.{byte_size}
-use Rattle.machine_model.specs.Worlds.{Undefined, Reply, Answers, Refuses, Memory}
+use Rattle.machine_model.specs.Worlds.{Undefined, Reply, Answers, Refuses}
 
 -- Bytes
 
@@ -112,6 +112,3 @@ ask_heap (Load w p) h = load_from w p.offset (buffer_at p.buffer h.buffers) h
 ask_heap (Store w n p) h = store_to w n p (buffer_at p.buffer h.buffers) h
 ask_heap (Allocate alignment n) h = allocated alignment n h
 ask_heap (Free p) h = free_at p (buffer_at p.buffer h.buffers) h
-
-abbrev pub heap_memory : Memory
-heap_memory = record { State = Heap; ask = ask_heap }

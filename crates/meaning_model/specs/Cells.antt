@@ -4,7 +4,7 @@ use Rattle.std.specs.Int.{div_ceil}
 use Rattle.operation_model.specs.Values.{Pointer}
 use Rattle.operation_model.specs.Doings.{Question, Load, Store, Allocate, Free}
 use Rattle.operation_model.specs.Straight.{byte_size}
-use Rattle.machine_model.specs.Worlds.{Undefined, NoRoom, Reply, Answers, Refuses, Memory}
+use Rattle.machine_model.specs.Worlds.{Undefined, NoRoom, Reply, Answers, Refuses}
 use Rattle.meaning_model.specs.Buffers.{Bytes, bytes_from, put_bytes, loaded, positive_multiple}
 
 -- an allocation: its first cell, its number of cells, and whether it is live
@@ -84,6 +84,3 @@ ask_cells (Load w p) c = load_cells w p.offset c
 ask_cells (Store w n p) c = store_cells w n p.offset c
 ask_cells (Allocate alignment n) c = placed (aligned alignment c.free) n c
 ask_cells (Free p) c = freed (without p.offset c.allocations) c
-
-abbrev pub cell_memory : Memory
-cell_memory = record { State = Cells; ask = ask_cells }

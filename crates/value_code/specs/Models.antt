@@ -1,9 +1,10 @@
 -- What the values of the code stand for.
-use Rattle.std.specs.Prelude.{ℕ, Bool, not, nat_lt, List, [], ◌∷◌, map, Option, Some, None}
-use Rattle.number_model.specs.Answers.{Answer, undefined_if, with_answer}
+use Rattle.std.specs.Prelude.{ℕ, ℤ, Bool, not, nat_lt, List, [], ◌∷◌, map, Option, Some, None}
+use Rattle.number_model.specs.Numbers.{signed}
+use Rattle.number_model.specs.Answers.{Answer, and_then, undefined_if, with_answer}
 use Rattle.number_model.specs.Answers.{Answer as answer}
 use Rattle.operation_model.specs.Values as model
-use Rattle.operation_model.specs.Pures.{one}
+use Rattle.operation_model.specs.Pures.{is_index, one}
 use Rattle.std.specs.Borrow.{Bor}
 use Rattle.value_code.specs.declared.value.Value.{Value}
 use Rattle.value_code.specs.declared.value.Value.TheOpen.{Value-F}
@@ -64,3 +65,28 @@ values_behind l = answer_of (λ r. value_of r.now ∷ []) l
 -- the size of a memref of this rank at a dimension
 abbrev pub size_of : ℕ → ℕ → model.Value → Answer (List model.Value)
 size_of rank i m = undefined_if (not (nat_lt i rank)) (with_answer one (model.part_at (model.size_path i) m))
+
+-- the part at a path as an integer
+abbrev pub number_in : List ℕ → model.Value → Answer ℕ
+number_in path m = and_then (model.part_at path m) model.number
+
+-- an index and the stride of its dimension
+abbrev pub index_and_stride : ℕ → model.Value → ℕ → model.Value → Answer (ℕ × ℕ)
+index_and_stride bits m k x =
+    and_then (model.number x) (λ i. and_then (number_in (model.size_path k) m) (λ size. and_then (number_in (model.stride_path k) m) (λ stride.
+    undefined_if (not (is_index bits i size)) (answer.Gives (i, stride)))))
+
+abbrev pub step_of : Looked (record { 0 : ℕ; 1 : ℕ }) → Answer (ℕ × ℕ)
+step_of l = answer_of (λ p. (p.0, p.1)) l
+
+-- a sum as a signed number of this width
+abbrev pub sum_of : ℕ → Looked ℕ → Answer ℤ
+sum_of bits l = answer_of (signed bits) l
+
+-- the place of the aligned pointer of a memref
+abbrev pub aligned_place : model.Value → Answer model.Place
+aligned_place m = and_then (model.part_at model.aligned_path m) model.place_of
+
+-- a place as a pointer to it
+abbrev pub place_at : Looked Place → Answer model.Value
+place_at l = answer_of pointer_at l

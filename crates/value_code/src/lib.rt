@@ -2,6 +2,7 @@
 #![tactic(auto)]
 
 mod choices;
+mod elements;
 mod look;
 mod parts;
 mod pointers;
@@ -9,6 +10,7 @@ mod pures;
 mod value;
 
 pub use choices::{selected, taken_size};
+pub use elements::element_place;
 pub use look::{Looked, number, place_of};
 pub use parts::{part, part_at};
 pub use pointers::{bytes_of, move_pointer, moved_on};
