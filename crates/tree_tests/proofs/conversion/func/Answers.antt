@@ -8,5 +8,5 @@ returns c = λ os made. record {
   label = 0;
   args = 0 ∷ [];
   ops = os;
-  is = rw (c.in_ok-text-2.ensures, c.new.ensures, c.new-2.ensures, c.new-3.ensures, c.new-4.ensures, c.in_ok-one.ensures, c.in_ok-region.ensures, c.in_ok-args.ensures, made) refl;
+  is = rw (c.in_ok-from_slice.ensures, c.new.ensures, c.new-2.ensures, c.new-3.ensures, c.new-4.ensures, c.in_ok-one.ensures, c.in_ok-region.ensures, c.in_ok-args.ensures, made) refl;
 }
