@@ -1,15 +1,20 @@
 -- How what an interner makes of keys follows step by step.
-use Rattle.std.specs.Prelude.{◌≡◌, ◌⊎◌, ◌<◌, ℕ, zero, suc, List, [], ◌∷◌, ◌++◌, Option, Some, None, Result, Ok, Err, IfOk, IfErr, OnErr, slice_get, length}
+use Rattle.std.specs.Prelude.{◌≡◌, ◌⊎◌, ◌<◌, ℕ, zero, suc, List, [], ◌∷◌, ◌++◌, Option, Some, None, Result, Ok, Err, IfOk, IfErr, OnOk, OnErr, slice_get, length, map}
 use Rattle.std.specs.List.{AllZip}
-use Rattle.std.proofs.Common.{sym, ◌∙◌, ap, subst, refl, inl, inr, append_assoc, arith}
-use Rattle.std.proofs.lemmas.List.{append-nil}
+use Rattle.std.proofs.Common.{sym, ◌∙◌, ap, subst, refl, inl, inr, append_assoc, arith, get_or, take, drop}
+use Rattle.std.proofs.lemmas.List.{append-nil, map-append}
 use Rattle.std.proofs.lemmas.Nat.{mod_below}
 use Rattle.std.proofs.lemmas.Option.{same_Some, none-some}
 use Rattle.key_model.specs.declared.entry.Entry.{Entry}
 use Rattle.key_model.specs.declared.handle.Handle.{Handle}
 use Rattle.key_model.specs.declared.key.Key.{Key}
+use Rattle.key_model.specs.declared.key.Key.TheVariants.{OfType, OfAttr}
+use Rattle.tree_model.specs.declared.type_tree.TypeTree.{TypeTree, out-TypeTree}
+use Rattle.tree_model.specs.declared.type_tree.TypeTree as type
+use Rattle.tree_model.specs.declared.type_tree.TypeTree.TheVariants as type_parts
+use Rattle.tree_model.specs.declared.attr_tree.AttrTree.{AttrTree}
 use Rattle.key_model.specs.Keys.{shard_number, key_hash}
-use Rattle.key_model.specs.Parts.{head_of, parts_of, IsWithin, itself, part}
+use Rattle.key_model.specs.Parts.{head_of, parts_of, values_of, types_of, IsWithin, itself, part}
 use Rattle.key_model.specs.Stands.{StandsFor, IsWithinLevels, IsLevel, Grows}
 use Rattle.key_model.specs.StandsLaws as laws
 use Rattle.intern_api.specs.declared.fault.InternFault.{InternFault}
@@ -68,7 +73,7 @@ extends_key p p1 k a = record {
 }
 
 fault_into : (p : Tables) (ks ls : List Key) → ((q : Key) → IsInOne q ks → IsInOne q ls) → (e : InternFault) → IsFaultFor p ks e → IsFaultFor p ls e
-fault_into p ks ls f (Full count) cause = (cause.0, (f cause.0 cause.1, cause.2))
+fault_into p ks ls f (Full count) cause = (cause.0, f cause.0 cause.1, cause.2)
 fault_into p ks ls f NoMemory cause = cause
 
 -- lists of keys, one after another
@@ -206,3 +211,38 @@ module _ (p p1 p2 : Tables) (k : Key) (e : Entry) (parts : Gathers p p1 [] e.chi
   pub stops_result : (r : Result Handle InternFault) → OnErr r (IsUnchanged p1.list.items p2.list.items) → 0 < p1.shards → IfErr r (IsNoRoom p2.cap p2.list.items e (shard_number p1.shards k)) → IfErr r (Stops p p2 (k ∷ []))
   stops_result (Ok h) same some room = tt
   stops_result (Err f) same some room = stops_placed f same some room
+
+pub then_ok : {U : Type 0} (r : Result U InternFault) (p p1 p2 : Tables) (hs hs1 hs2 : List Handle) (ks ls : List Key) → Gathers p p1 hs hs1 ks → OnOk r (Gathers p1 p2 hs1 hs2 ls) → OnOk r (Gathers p p2 hs hs2 (ks ++ ls))
+then_ok (Ok u) p p1 p2 hs hs1 hs2 ks ls a b = gathers_then p p1 p2 hs hs1 hs2 ks ls a b
+then_ok (Err f) p p1 p2 hs hs1 hs2 ks ls a b = tt
+
+pub then_err : {U : Type 0} (r : Result U InternFault) (p p1 p2 : Tables) (hs hs1 : List Handle) (ks ls : List Key) → Gathers p p1 hs hs1 ks → IfErr r (Stops p1 p2 ls) → IfErr r (Stops p p2 (ks ++ ls))
+then_err (Ok u) p p1 p2 hs hs1 ks ls a b = tt
+then_err (Err f) p p1 p2 hs hs1 ks ls a b = stops_then p p1 p2 hs hs1 ks ls f a b
+
+-- a list of keys, item by item
+map_split : {A : Type 0} (f : A → Key) (xs : List A) (i : ℕ) (x : A) → i < length xs → x ≡ get_or xs i x → (map f (take i xs) ++ f x ∷ []) ++ map f (drop (suc i) xs) ≡ map f xs
+map_split f [] i x within is = let no : ⊥ = omega arith in absurd no
+map_split f (y ∷ xs) zero x within is = ap (λ z. f z ∷ map f xs) is
+map_split f (y ∷ xs) (suc i) x within is = ap (λ l. f y ∷ l) (map_split f xs i x (omega arith) is)
+
+map_next : {A : Type 0} (f : A → Key) (xs : List A) (i : ℕ) (x : A) → i < length xs → x ≡ get_or xs i x → map f (take i xs) ++ f x ∷ [] ≡ map f (take (suc i) xs)
+map_next f [] i x within is = let no : ⊥ = omega arith in absurd no
+map_next f (y ∷ xs) zero x within is = ap (λ z. f z ∷ []) is
+map_next f (y ∷ xs) (suc i) x within is = ap (λ l. f y ∷ l) (map_next f xs i x (omega arith) is)
+
+pub gathers_next : {A : Type 0} (f : A → Key) (xs : List A) (i j : ℕ) (x : A) (p p1 p2 : Tables) (hs hs1 hs2 : List Handle) → i < length xs → x ≡ get_or xs i x → Gathers p p1 hs hs1 (map f (take i xs)) → Gathers p1 p2 hs1 hs2 (f x ∷ []) → j ≡ suc i → Gathers p p2 hs hs2 (map f (take j xs))
+gathers_next f xs i j x p p1 p2 hs hs1 hs2 within is a b next = subst (λ l. Gathers p p2 hs hs2 l) (map_next f xs i x within is ∙ ap (λ n. map f (take n xs)) (sym next)) (gathers_then p p1 p2 hs hs1 hs2 (map f (take i xs)) (f x ∷ []) a b)
+
+pub stops_at : {A : Type 0} (f : A → Key) (xs : List A) (i : ℕ) (x : A) (p p1 p2 : Tables) (hs hs1 : List Handle) (e : InternFault) → i < length xs → x ≡ get_or xs i x → Gathers p p1 hs hs1 (map f (take i xs)) → Stops p1 p2 (f x ∷ []) e → Stops p p2 (map f xs) e
+stops_at f xs i x p p1 p2 hs hs1 e within is a b = subst (λ l. Stops p p2 l e) (map_split f xs i x within is) (stops_first p p2 (map f (take i xs) ++ f x ∷ []) (map f (drop (suc i) xs)) e (stops_then p p1 p2 hs hs1 (map f (take i xs)) (f x ∷ []) e a b))
+
+pub values_map : (es : List (List ℕ × AttrTree)) → map OfAttr (values_of es) ≡ map (λ e. OfAttr e.1) es
+values_map [] = refl
+values_map (e ∷ es) = ap (λ l. OfAttr e.1 ∷ l) (values_map es)
+
+pub func_keys : (t : TypeTree) (is rs : List TypeTree) → t ≡ type.Func is rs → map OfType is ++ map OfType rs ≡ map OfType (types_of (out-TypeTree t))
+func_keys t is rs e = sym (map-append OfType is rs) ∙ ap (λ y. map OfType (types_of y)) (sym (type_parts.outs-Func is rs)) ∙ ap (λ u. map OfType (types_of (out-TypeTree u))) (sym e)
+
+pub llvm_func_keys : (t : TypeTree) (o : TypeTree) (is : List TypeTree) → t ≡ type.LlvmFunc o is → (OfType o ∷ []) ++ map OfType is ≡ map OfType (types_of (out-TypeTree t))
+llvm_func_keys t o is e = ap (λ y. map OfType (types_of y)) (sym (type_parts.outs-LlvmFunc o is)) ∙ ap (λ u. map OfType (types_of (out-TypeTree u))) (sym e)

@@ -21,7 +21,9 @@ impl Tables {
         ensures err { IfErr result (Stops self.old self.new (OfAttr a.now ∷ [])) }
     {
         let mut children = Items::new(self.alloc);
-        self.intern_parts_of(a, &mut children)?;
+        if let Err(fault) = self.intern_parts_of(a, &mut children) {
+            return Err(fault);
+        }
         let Ok(head) = attr_head(self.alloc, a) else {
             return Err(InternFault::NoMemory);
         };
@@ -48,7 +50,9 @@ impl Tables {
         ensures err { IfErr result (Stops self.old self.new (map OfAttr attrs.now)) }
     {
         for a in attrs {
-            self.intern_member(a, children)?;
+            if let Err(fault) = self.intern_member(a, children) {
+                return Err(fault);
+            }
         }
         Ok(())
     }
@@ -59,7 +63,9 @@ impl Tables {
         ensures err { IfErr result (Stops self.old self.new (map OfAttr (values_of entries.now))) }
     {
         for entry in entries {
-            self.intern_member(&entry.1, children)?;
+            if let Err(fault) = self.intern_member(&entry.1, children) {
+                return Err(fault);
+            }
         }
         Ok(())
     }
@@ -69,10 +75,12 @@ impl Tables {
         ensures ok { OnOk result (Gathers self.old self.new children.old children.new (OfAttr a.now ∷ [])) }
         ensures err { IfErr result (Stops self.old self.new (OfAttr a.now ∷ [])) }
     {
-        let handle = self.intern_attr(a)?;
-        match children.push(handle) {
-            Ok(()) => Ok(()),
-            Err(_) => Err(InternFault::NoMemory),
+        match self.intern_attr(a) {
+            Ok(handle) => match children.push(handle) {
+                Ok(()) => Ok(()),
+                Err(_) => Err(InternFault::NoMemory),
+            },
+            Err(fault) => Err(fault),
         }
     }
 }

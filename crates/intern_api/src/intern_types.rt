@@ -21,7 +21,9 @@ impl Tables {
         ensures err { IfErr result (Stops self.old self.new (OfType t.now ∷ [])) }
     {
         let mut children = Items::new(self.alloc);
-        self.intern_types_of(t, &mut children)?;
+        if let Err(fault) = self.intern_types_of(t, &mut children) {
+            return Err(fault);
+        }
         let Ok(head) = type_head(self.alloc, t) else {
             return Err(InternFault::NoMemory);
         };
@@ -36,13 +38,17 @@ impl Tables {
         match t {
             TypeTree::Memref(_, element) => self.intern_part(element.get(), children),
             TypeTree::Func(inputs, results) => {
-                self.intern_types(inputs.as_slice(), children)?;
+                if let Err(fault) = self.intern_types(inputs.as_slice(), children) {
+                    return Err(fault);
+                }
                 self.intern_types(results.as_slice(), children)
             }
             TypeTree::Struct(fields) => self.intern_types(fields.as_slice(), children),
             TypeTree::Array(_, element) => self.intern_part(element.get(), children),
             TypeTree::LlvmFunc(output, inputs) => {
-                self.intern_part(output.get(), children)?;
+                if let Err(fault) = self.intern_part(output.get(), children) {
+                    return Err(fault);
+                }
                 self.intern_types(inputs.as_slice(), children)
             }
             TypeTree::Int(_) | TypeTree::Index | TypeTree::Ptr | TypeTree::Void => Ok(()),
@@ -55,7 +61,9 @@ impl Tables {
         ensures err { IfErr result (Stops self.old self.new (map OfType types.now)) }
     {
         for t in types {
-            self.intern_part(t, children)?;
+            if let Err(fault) = self.intern_part(t, children) {
+                return Err(fault);
+            }
         }
         Ok(())
     }
@@ -66,10 +74,12 @@ impl Tables {
         ensures ok { OnOk result (Gathers self.old self.new children.old children.new (OfType t.now ∷ [])) }
         ensures err { IfErr result (Stops self.old self.new (OfType t.now ∷ [])) }
     {
-        let handle = self.intern_type(t)?;
-        match children.push(handle) {
-            Ok(()) => Ok(()),
-            Err(_) => Err(InternFault::NoMemory),
+        match self.intern_type(t) {
+            Ok(handle) => match children.push(handle) {
+                Ok(()) => Ok(()),
+                Err(_) => Err(InternFault::NoMemory),
+            },
+            Err(fault) => Err(fault),
         }
     }
 }
