@@ -246,3 +246,7 @@ func_keys t is rs e = sym (map-append OfType is rs) ∙ ap (λ y. map OfType (ty
 
 pub llvm_func_keys : (t : TypeTree) (o : TypeTree) (is : List TypeTree) → t ≡ type.LlvmFunc o is → (OfType o ∷ []) ++ map OfType is ≡ map OfType (types_of (out-TypeTree t))
 llvm_func_keys t o is e = ap (λ y. map OfType (types_of y)) (sym (type_parts.outs-LlvmFunc o is)) ∙ ap (λ u. map OfType (types_of (out-TypeTree u))) (sym e)
+
+pub kept_result : (r : Result Handle InternFault) (p p' : Tables) (k : Key) → IfOk r (Gives p p' k) → IfErr r (Stops p p' (k ∷ [])) → (h : Handle) (q : Key) → Holds p h q → Holds p' h q
+kept_result (Ok g) p p' k a b h q held = kept p p' (k ∷ []) a.extends h q held
+kept_result (Err f) p p' k a b h q held = kept p p' (k ∷ []) b.extends h q held

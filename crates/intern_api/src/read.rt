@@ -33,8 +33,10 @@ impl Tables {
         }
         match self.entry(handle) {
             Some(entry) => {
-                let parts = self.read_all(entry.children.as_slice(), room - 1)?;
-                build(self.alloc, &entry.head, parts)
+                match self.read_all(entry.children.as_slice(), room - 1) {
+                    Ok(parts) => build(self.alloc, &entry.head, parts),
+                    Err(fault) => Err(fault),
+                }
             }
             None => Err(AllocError),
         }
@@ -46,7 +48,8 @@ impl Tables {
     {
         let mut keys = Vec::new(self.alloc);
         for handle in handles {
-            keys.push(self.read_within(*handle, room)?)?;
+            let key = self.read_within(*handle, room)?;
+            keys.push(key)?;
         }
         Ok(keys)
     }

@@ -1,4 +1,5 @@
-use Rattle.std.proofs.Common.{sym, subst, map, [], ◌∷◌, ◌%◌, IfOk, IfErr, add-one}
+use Rattle.std.proofs.Common.{sym, subst, map, [], ◌∷◌, ◌%◌, IfOk, IfErr, ap, ◌∙◌, add-one}
+use Rattle.std.proofs.lemmas.List.{take_all}
 use Rattle.key_model.specs.Parts.{parts_of}
 use Rattle.key_model.specs.declared.key.Key.TheVariants.{OfAttr}
 use Rattle.intern_api.specs.Interning.{Gathers, Stops, IsPlaced, IsNoRoom}
@@ -32,3 +33,5 @@ intern_values-returns-in-Err-clause-err t c = subst (λ l. Stops c.args.self.now
 pub intern_values-loop-entry-preserved : goal.intern_values-loop-entry-preserved
 intern_values-loop-entry-preserved t c = gathers_next (λ e. OfAttr e.1) c.args.entries.now c.loop-entry.entry-index _ c.entry-item.result c.args.self.now c.loop-entry.self c.intern_member.new.self c.args.children.now c.loop-entry.children c.intern_member.new.children c.loop-entry-test.true c.entry-item.is c.loop-entry.invariant c.in_default.ensures.ok (add-one _)
 
+pub intern_values-returns-clause-ok : goal.intern_values-returns-clause-ok
+intern_values-returns-clause-ok t c = subst (λ l. Gathers c.args.self.now c.loop-entry.self c.args.children.now c.loop-entry.children l) (ap (map (λ e. OfAttr e.1)) (take_all _ _ c.loop-entry-test.false) ∙ sym (values_map c.args.entries.now)) c.loop-entry.invariant
