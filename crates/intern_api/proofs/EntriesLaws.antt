@@ -62,12 +62,15 @@ get_more (k ∷ ks) x (suc i) y at = elim (get_more ks x i y at) as (λ _. (slic
 pub distinct_more : (ks : List Entry) (e : Entry) → AreDistinct ks → IsAbsent e ks → AreDistinct (ks ++ e ∷ [])
 distinct_more ks e distinct absent i j f at bt =
     elim (get_more ks e i f at) as (λ _. i ≡ j) [
-      inl was ↦ elim (get_more ks e j f bt) as (λ _. i ≡ j) [
-        inl wbs ↦ distinct i j f was wbs
-      | inr new ↦ absurd (absent i (was ∙ ap Some (sym new.1))) ]
-    | inr new ↦ elim (get_more ks e j f bt) as (λ _. i ≡ j) [
-        inl wbs ↦ absurd (absent j (wbs ∙ ap Some (sym new.1)))
-      | inr mew ↦ new.0 ∙ sym mew.0 ] ]
+      | inl was ↦ elim (get_more ks e j f bt) as (λ _. i ≡ j) [
+        | inl wbs ↦ distinct i j f was wbs
+        | inr new ↦ absurd (absent i (was ∙ ap Some (sym new.1)))
+      ]
+      | inr new ↦ elim (get_more ks e j f bt) as (λ _. i ≡ j) [
+        | inl wbs ↦ absurd (absent j (wbs ∙ ap Some (sym new.1)))
+        | inr mew ↦ new.0 ∙ sym mew.0
+      ]
+    ]
 
 pub put_more : (shard : ℕ) (ks : List Entry) (e : Entry) (h : Handle) → h.shard ≡ shard → h.place ≡ length ks → IsPut shard ks (ks ++ e ∷ []) e h
 put_more shard ks e h of_shard last = record {

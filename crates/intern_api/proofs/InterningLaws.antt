@@ -57,8 +57,9 @@ extends_then p p1 p2 ks ls a b = record {
   cap = b.cap ∙ a.cap;
   grows = λ h e at. b.grows h e (a.grows h e at);
   only = λ h q held. elim (b.only h q held) as (λ _. Holds p h q ⊎ IsInOne q (ks ++ ls)) [
-    inl was ↦ elim (a.only h q was) as (λ _. Holds p h q ⊎ IsInOne q (ks ++ ls)) [ inl old ↦ inl old | inr new ↦ inr (in_left q ks ls new) ]
-  | inr new ↦ inr (in_right q ks ls new) ];
+    | inl was ↦ elim (a.only h q was) as (λ _. Holds p h q ⊎ IsInOne q (ks ++ ls)) [ inl old ↦ inl old | inr new ↦ inr (in_left q ks ls new) ]
+    | inr new ↦ inr (in_right q ks ls new)
+  ];
 }
 
 pub extends_left : (p p1 : Tables) (ks ls : List Key) → Extends p p1 ks → Extends p p1 (ks ++ ls)
@@ -151,8 +152,9 @@ module _ (p p1 p2 : Tables) (k : Key) (e : Entry) (parts : Gathers p p1 [] e.chi
   only_placed : (h : Handle) → IsPlaced p1.list.items p2.list.items e (shard_number p1.shards k) h → (n : ℕ) (g : Handle) (q : Key) → IsWithinLevels head_in children_of head_of parts_of (IsHome p1.shards) (entry_in p2.list.items) n g q → Holds p1 g q ⊎ IsInOne q (k ∷ [])
   only_placed h placed zero g q w = absurd w
   only_placed h placed (suc n) g q w = elim (placed.only g w.entry w.is) as (λ _. Holds p1 g q ⊎ IsInOne q (k ∷ [])) [
-      inl was ↦ inl (record { levels = suc n; stands = laws.stood_within head_in children_of head_of parts_of (IsHome p1.shards) (entry_in p1.list.items) (entry_in p2.list.items) placed.grows p1.closed (suc n) g q w.entry was w })
-    | inr new ↦ inr (subst (λ r. IsInOne r (k ∷ [])) (one_key p1.shards p2.list.items g k q (subst (λ f. Known p1.shards p2.list.items f k) (sym new) (held_placed h placed)) (record { levels = suc n; stands = w })) (itself_in k)) ]
+    | inl was ↦ inl (record { levels = suc n; stands = laws.stood_within head_in children_of head_of parts_of (IsHome p1.shards) (entry_in p1.list.items) (entry_in p2.list.items) placed.grows p1.closed (suc n) g q w.entry was w })
+    | inr new ↦ inr (subst (λ r. IsInOne r (k ∷ [])) (one_key p1.shards p2.list.items g k q (subst (λ f. Known p1.shards p2.list.items f k) (sym new) (held_placed h placed)) (record { levels = suc n; stands = w })) (itself_in k))
+  ]
 
   last_step : (h : Handle) → IsPlaced p1.list.items p2.list.items e (shard_number p1.shards k) h → Extends p p2 (k ∷ [])
   last_step h placed = record {
@@ -160,9 +162,10 @@ module _ (p p1 p2 : Tables) (k : Key) (e : Entry) (parts : Gathers p p1 [] e.chi
     cap = cap ∙ parts.extends.cap;
     grows = λ g f at. placed.grows g f (parts.extends.grows g f at);
     only = λ g q held. let own : Known p1.shards p2.list.items g q = subst (λ n. Known n p2.list.items g q) shards held in
-      elim (only_placed h placed own.levels g q own.stands) as (λ _. Holds p g q ⊎ IsInOne q (k ∷ [])) [
-        inl was ↦ (extends_key p p1 k parts.extends).only g q was
-      | inr new ↦ inr new ];
+        elim (only_placed h placed own.levels g q own.stands) as (λ _. Holds p g q ⊎ IsInOne q (k ∷ [])) [
+          | inl was ↦ (extends_key p p1 k parts.extends).only g q was
+          | inr new ↦ inr new
+        ];
   }
 
   pub gives_placed : (h : Handle) → IsPlaced p1.list.items p2.list.items e (shard_number p1.shards k) h → Gives p p2 k h
@@ -194,12 +197,15 @@ module _ (p p1 p2 : Tables) (k : Key) (e : Entry) (parts : Gathers p p1 [] e.chi
   stop_cause : IsUnchanged p1.list.items p2.list.items → shard_number p1.shards k < length p2.list.items → (f : InternFault) → IsNoRoom p2.cap p2.list.items e (shard_number p1.shards k) f → IsFaultFor p2 (k ∷ []) f
   stop_cause same within NoMemory room = tt
   stop_cause same within (Full count) room =
-      let t : (t : ShardTable) × (slice_get p2.list.items (shard_number p1.shards k) ≡ Some t) = table_at p2.list.items (shard_number p1.shards k) within in
-      (k, itself_in k, record {
-        cap = room.0;
-        absent = none_has same t.0 t.1 (room.1 t.0 t.1).1;
-        full = λ u at. (room.1 u (subst (λ n. slice_get p2.list.items (shard_number n k) ≡ Some u) shards at)).0;
-      })
+      let t : (t : ShardTable) × (slice_get p2.list.items (shard_number p1.shards k) ≡ Some t) = table_at p2.list.items (shard_number p1.shards k) within in (
+        k,
+        itself_in k,
+        record {
+          cap = room.0;
+          absent = none_has same t.0 t.1 (room.1 t.0 t.1).1;
+          full = λ u at. (room.1 u (subst (λ n. slice_get p2.list.items (shard_number n k) ≡ Some u) shards at)).0;
+        },
+      )
 
   pub stops_placed : (f : InternFault) → IsUnchanged p1.list.items p2.list.items → 0 < p1.shards → IsNoRoom p2.cap p2.list.items e (shard_number p1.shards k) f → Stops p p2 (k ∷ []) f
   stops_placed f same some room = record { extends = same_extends same; cause = stop_cause same (shard_within p2 p1.shards k shards some) f room }

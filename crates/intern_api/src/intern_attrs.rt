@@ -31,7 +31,11 @@ impl Tables {
     }
 
     #[cycle(intern_attr)]
-    fn intern_parts_of(&mut self, a: &AttrTree, children: &mut HandleList) -> Result<(), InternFault>
+    fn intern_parts_of(
+        &mut self,
+        a: &AttrTree,
+        children: &mut HandleList,
+    ) -> Result<(), InternFault>
         ensures ok { OnOk result (Gathers self.old self.new children.old children.new (keys_of (out-AttrTree a.now))) }
         ensures err { IfErr result (Stops self.old self.new (keys_of (out-AttrTree a.now))) }
     {
@@ -45,7 +49,11 @@ impl Tables {
     }
 
     #[cycle(intern_attr)]
-    fn intern_attrs(&mut self, attrs: &[AttrTree], children: &mut HandleList) -> Result<(), InternFault>
+    fn intern_attrs(
+        &mut self,
+        attrs: &[AttrTree],
+        children: &mut HandleList,
+    ) -> Result<(), InternFault>
         ensures ok { OnOk result (Gathers self.old self.new children.old children.new (map OfAttr attrs.now)) }
         ensures err { IfErr result (Stops self.old self.new (map OfAttr attrs.now)) }
     {
@@ -58,7 +66,11 @@ impl Tables {
     }
 
     #[cycle(intern_attr)]
-    fn intern_values(&mut self, entries: &[(Name, AttrTree)], children: &mut HandleList) -> Result<(), InternFault>
+    fn intern_values(
+        &mut self,
+        entries: &[(Name, AttrTree)],
+        children: &mut HandleList,
+    ) -> Result<(), InternFault>
         ensures ok { OnOk result (Gathers self.old self.new children.old children.new (map OfAttr (values_of entries.now))) }
         ensures err { IfErr result (Stops self.old self.new (map OfAttr (values_of entries.now))) }
     {

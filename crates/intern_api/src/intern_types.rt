@@ -31,7 +31,11 @@ impl Tables {
     }
 
     #[cycle(intern_type)]
-    fn intern_types_of(&mut self, t: &TypeTree, children: &mut HandleList) -> Result<(), InternFault>
+    fn intern_types_of(
+        &mut self,
+        t: &TypeTree,
+        children: &mut HandleList,
+    ) -> Result<(), InternFault>
         ensures ok { OnOk result (Gathers self.old self.new children.old children.new (map OfType (types_of (out-TypeTree t.now)))) }
         ensures err { IfErr result (Stops self.old self.new (map OfType (types_of (out-TypeTree t.now)))) }
     {
@@ -56,7 +60,11 @@ impl Tables {
     }
 
     #[cycle(intern_type)]
-    fn intern_types(&mut self, types: &[TypeTree], children: &mut HandleList) -> Result<(), InternFault>
+    fn intern_types(
+        &mut self,
+        types: &[TypeTree],
+        children: &mut HandleList,
+    ) -> Result<(), InternFault>
         ensures ok { OnOk result (Gathers self.old self.new children.old children.new (map OfType types.now)) }
         ensures err { IfErr result (Stops self.old self.new (map OfType types.now)) }
     {
@@ -70,7 +78,11 @@ impl Tables {
 
     /// Adds a type and puts its handle behind the others.
     #[cycle(intern_type)]
-    pub fn intern_part(&mut self, t: &TypeTree, children: &mut HandleList) -> Result<(), InternFault>
+    pub fn intern_part(
+        &mut self,
+        t: &TypeTree,
+        children: &mut HandleList,
+    ) -> Result<(), InternFault>
         ensures ok { OnOk result (Gathers self.old self.new children.old children.new (OfType t.now ∷ [])) }
         ensures err { IfErr result (Stops self.old self.new (OfType t.now ∷ [])) }
     {

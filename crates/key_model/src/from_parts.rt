@@ -11,7 +11,7 @@ use crate::entry::Head;
 use crate::key::Key;
 use sqlite_items::{Boxed, Items};
 use std::alloc::Global;
-use tree_model::{AttrTree, Dim, DictTree, Name, NoMemory, TypeTree, copy_names};
+use tree_model::{AttrTree, DictTree, Dim, Name, NoMemory, TypeTree, copy_names};
 
 #[tactic(auto, using(crate::proofs::BuildSteps::build_steps))]
 fn types_among(alloc: Global, keys: Vec<Key>) -> Result<Vec<TypeTree>, NoMemory>

@@ -28,32 +28,31 @@ pub intern_types-loop-t-preserved : goal.intern_types-loop-t-preserved
 intern_types-loop-t-preserved t c = gathers_next OfType c.args.types.now c.loop-t.t-index _ c.t-item.result c.args.self.now c.loop-t.self c.intern_part.new.self c.args.children.now c.loop-t.children c.intern_part.new.children c.loop-t-test.true c.t-item.is c.loop-t.invariant c.in_default.ensures.ok (add-one _)
 
 pub intern_types_of-returns-in-Err-clause-err : goal.intern_types_of-returns-in-Err-clause-err
-intern_types_of-returns-in-Err-clause-err t c = 
+intern_types_of-returns-in-Err-clause-err t c =
     subst (λ l. Stops c.args.self.now c.intern_types.new.self l c.in-Err.fault) (func_keys c.args.t.now c.as_slice.result.now c.in-Func.results (c.in-Func.is ∙ (λ i. type.Func (sym c.as_slice.ensures i) c.in-Func.results)))
-      (stops_first c.args.self.now c.intern_types.new.self (map OfType c.as_slice.result.now) (map OfType c.in-Func.results) c.in-Err.fault c.in-Err.ensures.err)
+    (stops_first c.args.self.now c.intern_types.new.self (map OfType c.as_slice.result.now) (map OfType c.in-Func.results) c.in-Err.fault c.in-Err.ensures.err)
 
 pub intern_types_of-returns-in_default-clause-ok : goal.intern_types_of-returns-in_default-clause-ok
-intern_types_of-returns-in_default-clause-ok t c = 
+intern_types_of-returns-in_default-clause-ok t c =
     subst (λ l. OnOk c.intern_types-in-Func.result (Gathers c.args.self.now c.intern_types-in-Func.new.self c.args.children.now c.intern_types-in-Func.new.children l)) (func_keys c.args.t.now c.as_slice.result.now c.as_slice-in-Func.result.now (c.in-Func.is ∙ (λ i. type.Func (sym c.as_slice.ensures i) (sym c.as_slice-in-Func.ensures i))))
-      (then_ok c.intern_types-in-Func.result c.args.self.now c.intern_types.new.self c.intern_types-in-Func.new.self c.args.children.now c.intern_types.new.children c.intern_types-in-Func.new.children (map OfType c.as_slice.result.now) (map OfType c.as_slice-in-Func.result.now) c.in_default.ensures.ok c.intern_types-in-Func.ensures.ok)
+    (then_ok c.intern_types-in-Func.result c.args.self.now c.intern_types.new.self c.intern_types-in-Func.new.self c.args.children.now c.intern_types.new.children c.intern_types-in-Func.new.children (map OfType c.as_slice.result.now) (map OfType c.as_slice-in-Func.result.now) c.in_default.ensures.ok c.intern_types-in-Func.ensures.ok)
 
 pub intern_types_of-returns-in_default-clause-err : goal.intern_types_of-returns-in_default-clause-err
-intern_types_of-returns-in_default-clause-err t c = 
+intern_types_of-returns-in_default-clause-err t c =
     subst (λ l. IfErr c.intern_types-in-Func.result (Stops c.args.self.now c.intern_types-in-Func.new.self l)) (func_keys c.args.t.now c.as_slice.result.now c.as_slice-in-Func.result.now (c.in-Func.is ∙ (λ i. type.Func (sym c.as_slice.ensures i) (sym c.as_slice-in-Func.ensures i))))
-      (then_err c.intern_types-in-Func.result c.args.self.now c.intern_types.new.self c.intern_types-in-Func.new.self c.args.children.now c.intern_types.new.children (map OfType c.as_slice.result.now) (map OfType c.as_slice-in-Func.result.now) c.in_default.ensures.ok c.intern_types-in-Func.ensures.err)
+    (then_err c.intern_types-in-Func.result c.args.self.now c.intern_types.new.self c.intern_types-in-Func.new.self c.args.children.now c.intern_types.new.children (map OfType c.as_slice.result.now) (map OfType c.as_slice-in-Func.result.now) c.in_default.ensures.ok c.intern_types-in-Func.ensures.err)
 
 pub intern_types_of-returns-in-Err-intern_part-clause-err : goal.intern_types_of-returns-in-Err-intern_part-clause-err
-intern_types_of-returns-in-Err-intern_part-clause-err t c = 
+intern_types_of-returns-in-Err-intern_part-clause-err t c =
     subst (λ l. Stops c.args.self.now c.intern_part-in-LlvmFunc.new.self l c.in-Err-intern_part.fault) (llvm_func_keys c.args.t.now c.get-in-LlvmFunc.result.now c.in-LlvmFunc.inputs (c.in-LlvmFunc.is ∙ (λ i. type.LlvmFunc (sym c.get-in-LlvmFunc.ensures i) c.in-LlvmFunc.inputs)))
-      (stops_first c.args.self.now c.intern_part-in-LlvmFunc.new.self (OfType c.get-in-LlvmFunc.result.now ∷ []) (map OfType c.in-LlvmFunc.inputs) c.in-Err-intern_part.fault c.in-Err-intern_part.ensures.err)
+    (stops_first c.args.self.now c.intern_part-in-LlvmFunc.new.self (OfType c.get-in-LlvmFunc.result.now ∷ []) (map OfType c.in-LlvmFunc.inputs) c.in-Err-intern_part.fault c.in-Err-intern_part.ensures.err)
 
 pub intern_types_of-returns-in_default-intern_part-clause-ok : goal.intern_types_of-returns-in_default-intern_part-clause-ok
-intern_types_of-returns-in_default-intern_part-clause-ok t c = 
+intern_types_of-returns-in_default-intern_part-clause-ok t c =
     subst (λ l. OnOk c.intern_types-in-LlvmFunc.result (Gathers c.args.self.now c.intern_types-in-LlvmFunc.new.self c.args.children.now c.intern_types-in-LlvmFunc.new.children l)) (llvm_func_keys c.args.t.now c.get-in-LlvmFunc.result.now c.as_slice-in-LlvmFunc.result.now (c.in-LlvmFunc.is ∙ (λ i. type.LlvmFunc (sym c.get-in-LlvmFunc.ensures i) (sym c.as_slice-in-LlvmFunc.ensures i))))
-      (then_ok c.intern_types-in-LlvmFunc.result c.args.self.now c.intern_part-in-LlvmFunc.new.self c.intern_types-in-LlvmFunc.new.self c.args.children.now c.intern_part-in-LlvmFunc.new.children c.intern_types-in-LlvmFunc.new.children (OfType c.get-in-LlvmFunc.result.now ∷ []) (map OfType c.as_slice-in-LlvmFunc.result.now) c.in_default-intern_part.ensures.ok c.intern_types-in-LlvmFunc.ensures.ok)
+    (then_ok c.intern_types-in-LlvmFunc.result c.args.self.now c.intern_part-in-LlvmFunc.new.self c.intern_types-in-LlvmFunc.new.self c.args.children.now c.intern_part-in-LlvmFunc.new.children c.intern_types-in-LlvmFunc.new.children (OfType c.get-in-LlvmFunc.result.now ∷ []) (map OfType c.as_slice-in-LlvmFunc.result.now) c.in_default-intern_part.ensures.ok c.intern_types-in-LlvmFunc.ensures.ok)
 
 pub intern_types_of-returns-in_default-intern_part-clause-err : goal.intern_types_of-returns-in_default-intern_part-clause-err
-intern_types_of-returns-in_default-intern_part-clause-err t c = 
+intern_types_of-returns-in_default-intern_part-clause-err t c =
     subst (λ l. IfErr c.intern_types-in-LlvmFunc.result (Stops c.args.self.now c.intern_types-in-LlvmFunc.new.self l)) (llvm_func_keys c.args.t.now c.get-in-LlvmFunc.result.now c.as_slice-in-LlvmFunc.result.now (c.in-LlvmFunc.is ∙ (λ i. type.LlvmFunc (sym c.get-in-LlvmFunc.ensures i) (sym c.as_slice-in-LlvmFunc.ensures i))))
-      (then_err c.intern_types-in-LlvmFunc.result c.args.self.now c.intern_part-in-LlvmFunc.new.self c.intern_types-in-LlvmFunc.new.self c.args.children.now c.intern_part-in-LlvmFunc.new.children (OfType c.get-in-LlvmFunc.result.now ∷ []) (map OfType c.as_slice-in-LlvmFunc.result.now) c.in_default-intern_part.ensures.ok c.intern_types-in-LlvmFunc.ensures.err)
-
+    (then_err c.intern_types-in-LlvmFunc.result c.args.self.now c.intern_part-in-LlvmFunc.new.self c.intern_types-in-LlvmFunc.new.self c.args.children.now c.intern_part-in-LlvmFunc.new.children (OfType c.get-in-LlvmFunc.result.now ∷ []) (map OfType c.as_slice-in-LlvmFunc.result.now) c.in_default-intern_part.ensures.ok c.intern_types-in-LlvmFunc.ensures.err)
