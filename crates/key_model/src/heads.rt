@@ -1,17 +1,17 @@
 //! The outermost level of a key.
 
 ghost use Rattle.std.specs.Prelude.{◌≡◌, IfOk};
-ghost use Rattle.key_model.specs.Parts.{head_of, type_head, attr_head, names_of};
+ghost use Rattle.key_model.specs.Parts.{type_head, attr_head, names_of};
 ghost use Rattle.tree_model.specs.declared.type_tree.TypeTree.{out-TypeTree};
 ghost use Rattle.tree_model.specs.declared.attr_tree.AttrTree.{out-AttrTree};
 
 use crate::entry::Head;
-use crate::key::Key;
 use sqlite_items::Items;
 use std::alloc::{AllocError, Global};
 use tree_model::{AttrTree, Name, NameList, NoMemory, TypeTree, copy_names};
 
-fn type_head(alloc: Global, t: &TypeTree) -> Result<Head, NoMemory>
+/// The outermost level of a type. A function type of 2^32 inputs is want of memory.
+pub fn type_head(alloc: Global, t: &TypeTree) -> Result<Head, NoMemory>
     ensures { IfOk result (λ head. head ≡ type_head (out-TypeTree t.now)) }
 {
     match t {
@@ -40,7 +40,8 @@ fn entry_names(alloc: Global, entries: &[(Name, AttrTree)]) -> Result<NameList, 
     Ok(names)
 }
 
-fn attr_head(alloc: Global, a: &AttrTree) -> Result<Head, NoMemory>
+/// The outermost level of an attribute.
+pub fn attr_head(alloc: Global, a: &AttrTree) -> Result<Head, NoMemory>
     ensures { IfOk result (λ head. head ≡ attr_head (out-AttrTree a.now)) }
 {
     match a {
@@ -60,15 +61,5 @@ fn attr_head(alloc: Global, a: &AttrTree) -> Result<Head, NoMemory>
             let words = copy_names(alloc, words.as_slice())?;
             Ok(Head::Dialect(name, words))
         }
-    }
-}
-
-/// The outermost level of a key. A function type of 2^32 inputs is want of memory.
-pub fn head_of(alloc: Global, key: &Key) -> Result<Head, NoMemory>
-    ensures { IfOk result (λ head. head ≡ head_of key.now) }
-{
-    match key {
-        Key::OfType(t) => type_head(alloc, t),
-        Key::OfAttr(a) => attr_head(alloc, a),
     }
 }

@@ -1,6 +1,7 @@
 //! Keys: what a handle stands for.
 
 ghost use Rattle.std.specs.Prelude.{◌≡◌, ◌≤◌, ◌<◌, ◌↔◌, IfOk, IsTrue};
+ghost use Rattle.key_model.specs.declared.key.Key.TheVariants.{OfType, OfAttr};
 ghost use Rattle.key_model.specs.Keys.{key_text, key_hash, shard_number};
 
 use crate::roll::roll;
@@ -36,22 +37,34 @@ pub fn key_bytes(alloc: Global, key: &Key) -> Result<Bytes, NoMemory>
     }
 }
 
-/// The hash of a key's text, which is not made for it.
+/// The hash of the text of a type's key, which is not made for it.
+pub fn type_hash(t: &TypeTree) -> u32
+    ensures { result ≡ key_hash (OfType t.now) }
+{
+    let mut sum = 0;
+    roll(&mut sum, b"t");
+    roll_type(&mut sum, false, t);
+    sum
+}
+
+/// The hash of the text of an attribute's key.
+pub fn attr_hash(a: &AttrTree) -> u32
+    ensures { result ≡ key_hash (OfAttr a.now) }
+{
+    let mut sum = 0;
+    roll(&mut sum, b"a");
+    roll_attr(&mut sum, a);
+    sum
+}
+
+/// The hash of a key's text.
 pub fn hash_of(key: &Key) -> u32
     ensures { result ≡ key_hash key.now }
 {
-    let mut sum = 0;
     match key {
-        Key::OfType(t) => {
-            roll(&mut sum, b"t");
-            roll_type(&mut sum, false, t);
-        }
-        Key::OfAttr(a) => {
-            roll(&mut sum, b"a");
-            roll_attr(&mut sum, a);
-        }
+        Key::OfType(t) => type_hash(t),
+        Key::OfAttr(a) => attr_hash(a),
     }
-    sum
 }
 
 /// The shard of a key.

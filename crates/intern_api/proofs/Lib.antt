@@ -1,0 +1,5 @@
+pub mod EntriesLaws
+pub mod InterningLaws
+pub mod PlaceLaws
+pub mod ReadLaws
+pub mod EmptyLaws
