@@ -46,13 +46,13 @@ clean_case : (a b : Bool) → a ≡ false → b ≡ true → elim a [ true ↦ f
 clean_case true b e h = absurd cc
 clean_case false b e h = h
 
-plain_clean : {P N K T S : Type 0} (l : Language P N K T S) (plain : P → Bool) → ((s : S) (p : P) (t : T) → plain p ≡ true → l.stands s (p, t) ≡ false)
-    → (s : S) (ps : List P) (ts : List T) → all_in plain ps ≡ true → clean l.step l.stands s (events ps ts) ≡ true
-plain_clean l plain never s [] ts h = refl
-plain_clean l plain never s (p ∷ ps) [] h = refl
-plain_clean l plain never s (p ∷ ps) (t ∷ ts) h =
-    clean_case (l.stands s (p, t)) (clean l.step l.stands (l.step s (p, t)) (events ps ts)) (never s p t (both_left (plain p) (all_in plain ps) h))
-    (plain_clean l plain never (l.step s (p, t)) ps ts (both_right (plain p) (all_in plain ps) h))
+plain_clean : {P N K T S : Type 0} (l : Language P N K T S) (plain : P → Bool) (token : K → T) → ((s : S) (p : P) (k : K) → plain p ≡ true → l.stands s (p, token k) ≡ false)
+    → (s : S) (ps : List P) (ks : List K) → all_in plain ps ≡ true → clean l.step l.stands s (events ps (map token ks)) ≡ true
+plain_clean l plain token never s [] ks h = refl
+plain_clean l plain token never s (p ∷ ps) [] h = refl
+plain_clean l plain token never s (p ∷ ps) (k ∷ ks) h =
+    clean_case (l.stands s (p, token k)) (clean l.step l.stands (l.step s (p, token k)) (events ps (map token ks))) (never s p k (both_left (plain p) (all_in plain ps) h))
+      (plain_clean l plain token never (l.step s (p, token k)) ps ks (both_right (plain p) (all_in plain ps) h))
 
 begun_here : {P N K T S : Type 0} {l : Language P N K T S} {every : List K} {follow : N → K → Bool} {plain : P → Bool} → IsLanguage l every follow plain
     → (ss : List (Symbol P N)) (s : S) → Good l.grammar follow plain ss → BeginsTextFrom l ss s []
@@ -64,7 +64,7 @@ begun_here {P = P} {K = K} {l = l} {plain = plain} is ss s good =
         found.places,
         (
           subst R (sym (tokens_of l is.token is.token_is found.kinds)) found.reads,
-          plain_clean l plain is.never s found.places (map is.token found.kinds) found.plain_ones,
+          plain_clean l plain is.token is.never s found.places found.kinds found.plain_ones,
         ),
       ),
     )

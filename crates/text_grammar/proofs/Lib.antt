@@ -1,0 +1,5 @@
+pub mod Follow
+pub mod Generic
+pub mod RunLemmas
+pub mod EventLemmas
+pub mod ReadLemmas

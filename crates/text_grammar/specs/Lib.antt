@@ -1,0 +1,6 @@
+pub mod Kinds
+pub mod Places
+pub mod Table
+pub mod Text
+pub mod Steps
+pub mod Reading

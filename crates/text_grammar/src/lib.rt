@@ -1,0 +1,15 @@
+//! The grammar of MLIR's generic text, and the machine that reads it: each token gets its place in the grammar, and a fault of form its own.
+#![tactic(auto)]
+
+mod kinds;
+mod machine;
+mod parts;
+mod places;
+mod reading;
+mod words;
+
+pub use kinds::Kind;
+pub use parts::{Part, Row, Wanted, lines, may_be_left_out};
+pub use places::{Place, fits};
+pub use reading::{Reading, read};
+pub use words::Word;
