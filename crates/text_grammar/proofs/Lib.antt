@@ -3,3 +3,4 @@ pub mod Generic
 pub mod RunLemmas
 pub mod EventLemmas
 pub mod ReadLemmas
+pub mod LongLemmas

@@ -4,3 +4,4 @@ pub mod Table
 pub mod Text
 pub mod Steps
 pub mod Reading
+pub mod TokenKinds

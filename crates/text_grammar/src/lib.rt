@@ -2,10 +2,12 @@
 #![tactic(auto)]
 
 mod kinds;
+mod long_numbers;
 mod machine;
 mod parts;
 mod places;
 mod reading;
+mod token_kinds;
 mod words;
 
 pub use kinds::Kind;
