@@ -4,3 +4,4 @@ pub mod RunLemmas
 pub mod EventLemmas
 pub mod ReadLemmas
 pub mod LongLemmas
+pub mod WordLemmas

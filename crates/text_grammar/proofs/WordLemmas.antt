@@ -16,7 +16,10 @@ first_is : (text : List ℕ) (tokens : List Token) (fault : Option LexFault) →
 unfolding Lexes LexesFrom
 first_is text [] None h = h
 first_is text [] (Some fault) h = let first = lexes-fault text [] fault h in (h, first.2)
-first_is text (t ∷ ts) fault h = let all = lexes-within text (t ∷ ts) fault h in (h.0, h.1, all.0.0, all.0.1)
+first_is text (t ∷ ts) fault h =
+    let all : All (λ (t : Token). (t.start < t.end) × (t.end ≤ length text)) (t ∷ ts) = lexes-within text (t ∷ ts) fault h in
+    let at_head : (t.start < t.end) × (t.end ≤ length text) = all 0 t (omega arith) in
+    (h.0, h.1, at_head.0, at_head.1)
 
 pub first_given : (text : List ℕ) (o : Outcome) (r : Result (Option Token) LexFault) → Lexes text o.tokens o.fault → r ≡ next_of o → IsFirst text r
 first_given text o r h e = rw e (first_is text o.tokens o.fault h)
@@ -26,19 +29,23 @@ unfolding AreWords
 no_words text = λ more fault h. h
 
 -- one more
-pub next_word : (text : List ℕ) (words pushed : List Word) (mode : Mode) (at : ℕ) (word : Word) → IsSoFar text words mode at → HasWord mode at (drop at text) word → at ≤ word.end
-    → pushed ≡ words ++ word ∷ [] → IsSoFar text pushed (mode_behind mode word.kind) word.end
+pub next_word : (text rest : List ℕ) (words pushed : List Word) (mode : Mode) (at : ℕ) (word : Word) → IsSoFar text words mode at → rest ≡ drop at text → HasWord mode at rest word
+    → at ≤ word.end → pushed ≡ words ++ word ∷ [] → IsSoFar text pushed (mode_behind mode word.kind) word.end
 unfolding WordsFrom
-next_word text words pushed mode at word so_far has past put = λ more fault h.
+next_word text rest words pushed mode at word so_far is has past put = λ more fault h.
     let place : at + (word.end - at) ≡ word.end = omega arith in
-    let e : drop (word.end - at) (drop at text) ≡ drop word.end text = ? in
-    let R : List ℕ → Type 0 = λ rest. WordsFrom (mode_behind mode word.kind) word.end rest more fault in
-    rw (put, append_assoc) (so_far (word ∷ more) fault (has, subst R (sym e) h))
+    let d : drop (word.end - at) (drop at text) ≡ drop (at + (word.end - at)) text = drop-drop (word.end - at) at text in
+    let e : drop (word.end - at) (drop at text) ≡ drop word.end text = rw place at d in
+    let R : List ℕ → Type 0 = λ left. WordsFrom (mode_behind mode word.kind) word.end left more fault in
+    let H : List ℕ → Type 0 = λ left. HasWord mode at left word in
+    rw (put, append_assoc) (so_far (word ∷ more) fault (subst H is has, subst R (sym e) h))
 
-pub all_words : (text : List ℕ) (words : List Word) (mode : Mode) (at : ℕ) → IsSoFar text words mode at → IsGap (drop at text) [] → AreWords text words None
+pub all_words : (text rest : List ℕ) (words : List Word) (mode : Mode) (at : ℕ) → IsSoFar text words mode at → rest ≡ drop at text → IsGap rest [] → AreWords text words None
 unfolding WordsFrom
-all_words text words mode at so_far gap = rw (← append-nil words) (so_far [] None gap)
+all_words text rest words mode at so_far is gap = rw (← append-nil words) (so_far [] None (rw is at gap))
 
-pub words_to : (text : List ℕ) (words : List Word) (mode : Mode) (at : ℕ) (fault : LexFault) → IsSoFar text words mode at → HasFault at (drop at text) fault → AreWords text words (Some fault)
+pub words_to : (text rest : List ℕ) (words : List Word) (mode : Mode) (at : ℕ) (fault here : LexFault) → IsSoFar text words mode at → rest ≡ drop at text → FailsAt 0 rest here
+    → fault ≡ record { place = at + here.place; kind = here.kind } → AreWords text words (Some fault)
 unfolding WordsFrom
-words_to text words mode at fault so_far has = rw (← append-nil words) (so_far [] (Some fault) has)
+words_to text rest words mode at fault here so_far is fails e =
+    rw (← append-nil words) (so_far [] (Some fault) (record { here = here; fails = rw is at fails; is = e }))

@@ -5,3 +5,4 @@ pub mod Text
 pub mod Steps
 pub mod Reading
 pub mod TokenKinds
+pub mod Words

@@ -1,6 +1,6 @@
 //! Cuts a text into words.
 
-ghost use Rattle.std.specs.Prelude.{◌≡◌, ◌≤◌, ◌<◌, ◌+◌, ◌^◌, IfOk, length};
+ghost use Rattle.std.specs.Prelude.{◌≡◌, ◌≤◌, ◌<◌, ◌+◌, ◌^◌, IfOk, drop, length};
 ghost use Rattle.std.specs.List.{prefix_len};
 ghost use Rattle.mlir_lex.specs.Bytes.{is_digit};
 ghost use Rattle.text_grammar.specs.Words.{AreWords, IsFirst, cut_kind, cut_len, mode_behind, one_if, part_kind, part_len, piece_of, word_of};
@@ -32,15 +32,15 @@ pub struct Words {
 }
 
 /// All words of the text.
-pub fn words(alloc: Global, text: &[u8]) -> Result<Words, AllocError>
+pub fn cut(alloc: Global, text: &[u8]) -> Result<Words, AllocError>
     requires { length text.now ≤ 2 ^ 24 }
     ensures { IfOk result (λ w. AreWords text.now w.words.items w.fault) }
 {
     let mut words = Vec::new(alloc);
     let mut mode = Mode::Plain;
     let mut at = 0;
-    loop {
-        let rest = &text[at..];
+    'each: loop {
+        let rest = behind(text, at);
         match first_token(rest) {
             Ok(Some(token)) => {
                 let word = word_at(mode, at, rest, token);
@@ -51,11 +51,25 @@ pub fn words(alloc: Global, text: &[u8]) -> Result<Words, AllocError>
             Ok(None) => return Ok(Words { words, fault: None }),
             Err(fault) => {
                 let place = at as u32 + fault.place;
-                let fault = LexFault { place, kind: fault.kind };
-                return Ok(Words { words, fault: Some(fault) });
+                let fault = LexFault {
+                    place,
+                    kind: fault.kind,
+                };
+                return Ok(Words {
+                    words,
+                    fault: Some(fault),
+                });
             }
         }
     }
+}
+
+/// What stands behind so many bytes.
+fn behind(text: &[u8], count: usize) -> &[u8]
+    ensures { result.now ≡ drop count text.now }
+{
+    let (_, rest) = text.split_at(count.min(text.len()));
+    rest
 }
 
 /// The first token of a text.
@@ -82,7 +96,12 @@ fn word_at(mode: Mode, at: usize, text: &[u8], token: Token) -> Word
     let kind = cut_kind(mode, token.kind, piece);
     let long = is_long(kind, &piece[..count]);
     let start = at as u32 + token.start;
-    Word { kind, long, start, end: start + count as u32 }
+    Word {
+        kind,
+        long,
+        start,
+        end: start + count as u32,
+    }
 }
 
 #[tactic(auto, unfolding(crate::specs::Words::cut_len))]
@@ -125,13 +144,7 @@ fn one_if(b: u8, piece: &[u8]) -> usize
     ensures bound { result ≤ length piece.now }
 {
     match piece {
-        [first, ..] => {
-            if *first == b {
-                1
-            } else {
-                0
-            }
-        }
+        [first, ..] => { if *first == b { 1 } else { 0 } }
         [] => 0,
     }
 }

@@ -1,6 +1,7 @@
 //! The grammar of MLIR's generic text, and the machine that reads it: each token gets its place in the grammar, and a fault of form its own.
 #![tactic(auto)]
 
+mod cuts;
 mod kinds;
 mod long_numbers;
 mod machine;
@@ -10,6 +11,7 @@ mod reading;
 mod token_kinds;
 mod words;
 
+pub use cuts::{Words, cut};
 pub use kinds::Kind;
 pub use parts::{Part, Row, Wanted, lines, may_be_left_out};
 pub use places::{Place, fits};
