@@ -4,8 +4,8 @@ use Rattle.std.proofs.lemmas.List.{drop_all, drop_more}
 use Rattle.std.specs.Prelude.{IfSome}
 use Rattle.line_grammar.specs.Grammar.{Grammar}
 use Rattle.line_grammar.specs.Machine.{Outcome, next, run, with_front, whole, ends}
-use Rattle.line_grammar.specs.Language.{Language, events, first_at, or_end, EndsText, IsLanguage}
-use Rattle.line_grammar.proofs.Texts.{text_none, text_ends}
+use Rattle.line_grammar.specs.Language.{Language, events, first_at, or_end, ReadsText, EndsText, IsLanguage}
+use Rattle.line_grammar.proofs.Texts.{text_none, text_ends, text_only}
 use Rattle.text_grammar.specs.declared.kinds.Kind.{Kind}
 use Rattle.text_grammar.specs.declared.kinds.Kind.TheVariants as kinds
 use Rattle.text_grammar.specs.declared.places.Place.{Place}
@@ -52,3 +52,11 @@ stops g places old new words none i o r within is takes h =
 pub all_read : (g : Grammar Place Part Kind) (places : List Place) (wanted : List Wanted) (words : List Word) (i : ℕ) (r : Outcome Place Part) → length words ≤ i
     → with_front places (run g wanted (map kind_of (drop i words))) ≡ r → (r.0 ≡ places) × (whole g r ≡ ends g wanted)
 all_read g places wanted words i r past h = runs.at_end g places wanted r (rw (drop_all i words past) at h)
+
+-- a text is found, at its places
+pub only_so : {P N K T S : Type 0} {l : Language P N K T S} {every : List K} {follow : N → K → Bool} {plain : P → Bool} → IsLanguage l every follow plain
+    → (o : Option ℕ) (qs : List P) (b : Bool) (ts : List T) → (run l.grammar l.start (map l.kind ts)).0 ≡ qs
+    → whole l.grammar (run l.grammar l.start (map l.kind ts)) ≡ b → o ≡ or_end (first_at l.step l.stands l.first (events qs ts)) b (length qs)
+    → (ps : List P) → ReadsText l ps ts → (qs ≡ ps) × (o ≡ None)
+only_so language o qs b ts taken is e ps reads =
+    let found = text_only language ts ps qs reads taken in (found.0, rw (e, ← is) found.1)

@@ -6,3 +6,4 @@ pub mod Steps
 pub mod Reading
 pub mod TokenKinds
 pub mod Words
+pub mod Laws

@@ -1,12 +1,13 @@
 //! Reads a whole text: the place of each word, and where looking ends.
 
-ghost use Rattle.std.specs.Prelude.{◌≡◌, ℕ, ◌+◌, IfOk, List, Some, length, map};
-ghost use Rattle.line_grammar.specs.Language.{events, first_at, or_end};
+ghost use Rattle.std.specs.Prelude.{◌≡◌, IfOk, List, length};
+ghost use Rattle.line_grammar.specs.Language.{ReadsText, events, first_at, or_end};
 ghost use Rattle.line_grammar.specs.Machine.{run, whole};
 ghost use Rattle.text_grammar.specs.Reading.{IsFound, IsRefused};
 ghost use Rattle.text_grammar.specs.Steps.{Looked};
+ghost use Rattle.text_grammar.specs.declared.places.Place.{Place};
 ghost use Rattle.text_grammar.specs.Table.{generic};
-ghost use Rattle.text_grammar.specs.Text.{is_refused, sizes_behind, stands, start, step};
+ghost use Rattle.text_grammar.specs.Text.{generic_text, is_refused, sizes_behind, stands, start, step};
 
 use crate::machine::{ends_here, take};
 use crate::parts::{Part, Wanted};
@@ -28,6 +29,7 @@ pub struct Reading {
 pub fn read(alloc: Global, words: &[Word]) -> Result<Reading, AllocError>
     ensures found { IfOk result (λ r. IsFound r.end r.places.items words.now) }
     ensures refused { IfOk result (λ r. IsRefused r.end words.now) }
+    ensures only { (ps : List Place) → ReadsText generic_text ps words.now → IfOk result (λ r. (r.places.items ≡ ps) × (r.end ≡ None)) }
 {
     let (places, whole) = places_of(alloc, words)?;
     let end = end_of(&places, whole, words);
