@@ -1,5 +1,5 @@
 -- The first event at which a test stands, step by step.
-use Rattle.std.proofs.Common.{◌≡◌, ℕ, suc, ◌+◌, ◌<◌, ◌≤◌, Bool, true, false, List, [], ◌∷◌, length, drop, get_or, Option, Some, None, refl, sym, ◌∙◌, ap, arith}
+use Rattle.std.proofs.Common.{◌≡◌, ℕ, suc, ◌+◌, ◌<◌, ◌≤◌, Bool, true, false, List, [], ◌∷◌, length, drop, get_or, Option, Some, None, refl, arith}
 use Rattle.std.proofs.lemmas.List.{drop_all, drop_more}
 use Rattle.line_grammar.specs.Language.{Event, events, first_at, one_later}
 

@@ -1,5 +1,5 @@
 -- The table is one whose next token decides, so that the machine reads exactly what it describes. The conditions are computed.
-use Rattle.std.proofs.Common.{◌≡◌, ℕ, Bool, true, false, List, [], ◌∷◌, Option, Some, None, refl}
+use Rattle.std.proofs.Common.{◌≡◌, ℕ, Bool, true, false, [], ◌∷◌, Some, refl}
 use Rattle.line_grammar.specs.Conditions.{at_place, implies, decided, made, plain_rests, IsLl}
 use Rattle.line_grammar.specs.Language.{IsLanguage}
 use Rattle.text_grammar.specs.declared.kinds.Kind.{Kind}
@@ -12,7 +12,7 @@ use Rattle.text_grammar.specs.declared.words.Word.{Word}
 use Rattle.text_grammar.specs.Kinds.{number, every}
 use Rattle.text_grammar.specs.Places.{fits_at, kinds_at}
 use Rattle.text_grammar.specs.Table.{generic, lines_of}
-use Rattle.text_grammar.specs.Text.{stands, is_refused, start, generic_text}
+use Rattle.text_grammar.specs.Text.{stands, start, generic_text}
 use Rattle.text_grammar.proofs.Follow.{follow}
 
 -- the places that may complete a text: those where nothing is refused

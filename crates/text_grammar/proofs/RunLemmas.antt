@@ -1,9 +1,9 @@
 -- A run of the machine, step by step, over any grammar.
-use Rattle.std.proofs.Common.{◌≡◌, ℕ, Bool, true, false, List, [], ◌∷◌, ◌++◌, Option, Some, None, refl, sym, ◌∙◌, ap, subst, append_assoc}
+use Rattle.std.proofs.Common.{◌≡◌, false, List, [], ◌∷◌, ◌++◌, Some, None, refl, append_assoc}
 use Rattle.std.proofs.lemmas.List.{append-nil}
 use Rattle.line_grammar.specs.declared.Symbol.{Symbol}
 use Rattle.line_grammar.specs.Grammar.{Grammar}
-use Rattle.line_grammar.specs.Machine.{Outcome, next, run, with_front, whole, ends, ends_there}
+use Rattle.line_grammar.specs.Machine.{Outcome, next, run, with_front, whole, ends}
 
 -- a step
 pub goes_on : {P N K : Type 0} (g : Grammar P N K) (places : List P) (ss more : List (Symbol P N)) (k : K) (ks : List K) (p : P) (r : Outcome P N)

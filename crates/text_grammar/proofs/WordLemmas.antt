@@ -1,15 +1,15 @@
 -- The words of a text, one by one.
-use Rattle.std.proofs.Common.{◌≡◌, ℕ, suc, ◌+◌, ◌-◌, ◌<◌, ◌≤◌, Bool, true, false, List, [], ◌∷◌, ◌++◌, length, take, drop, Option, Some, None, Result, Ok, Err, refl, sym, ◌∙◌, ap, subst, arith, append_assoc}
+use Rattle.std.proofs.Common.{◌≡◌, ℕ, ◌+◌, ◌-◌, ◌<◌, ◌≤◌, List, [], ◌∷◌, ◌++◌, length, drop, Option, Some, None, Result, sym, subst, arith, append_assoc}
 use Rattle.std.proofs.lemmas.List.{append-nil, drop-drop}
 use Rattle.std.specs.Prelude.{All}
 use Rattle.mlir_lex.specs.declared.Token.{Token}
 use Rattle.mlir_lex.specs.declared.LexFault.{LexFault}
-use Rattle.mlir_lex.specs.Text.{Lexes, LexesFrom, Outcome, first_of, next_of, FailsAt, BeginsWith, IsGap}
+use Rattle.mlir_lex.specs.Text.{Lexes, LexesFrom, Outcome, first_of, next_of, FailsAt, IsGap}
 use Rattle.mlir_lex.proofs.Spans.{lexes-within, lexes-fault}
 use Rattle.text_grammar.specs.declared.words.Word.{Word}
 use Rattle.text_grammar.specs.declared.cuts.Mode.{Mode}
 use Rattle.text_grammar.specs.declared.cuts.Mode.TheVariants.{Plain}
-use Rattle.text_grammar.specs.Words.{mode_behind, word_of, piece_of, HasWord, HasFault, WordsFrom, AreWords, IsFirst, IsSoFar}
+use Rattle.text_grammar.specs.Words.{mode_behind, HasWord, WordsFrom, AreWords, IsFirst, IsSoFar}
 
 -- what a lexer gives first
 first_is : (text : List ℕ) (tokens : List Token) (fault : Option LexFault) → Lexes text tokens fault → IsFirst text (first_of tokens fault)

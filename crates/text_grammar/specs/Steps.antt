@@ -1,6 +1,6 @@
 -- What the machine in code does, against the machine of the grammar: its stack has the symbol that is wanted next at its end.
-use Rattle.std.specs.Prelude.{◌≡◌, ℕ, Bool, true, false, List, Option, Some, None, ◌∷◌, length, map}
-use Rattle.line_grammar.specs.Machine.{Step, Outcome, run, whole}
+use Rattle.std.specs.Prelude.{◌≡◌, Bool, List, Option, Some, None, map}
+use Rattle.line_grammar.specs.Machine.{Step, run, whole}
 use Rattle.text_grammar.specs.declared.kinds.Kind.{Kind}
 use Rattle.text_grammar.specs.declared.places.Place.{Place}
 use Rattle.text_grammar.specs.declared.parts.Part.{Part}

@@ -1,6 +1,5 @@
 -- The language of the generic text: its grammar over words, and what is refused where the grammar goes on.
 use Rattle.std.specs.Prelude.{ℕ, ◌+◌, Bool, true, false, List, [], ◌∷◌, ◌||◌, nat_le, nat_lt, if◌then◌else◌}
-use Rattle.line_grammar.specs.declared.Symbol.{Symbol}
 use Rattle.line_grammar.specs.Language.{Event, Language}
 use Rattle.text_grammar.specs.declared.kinds.Kind.{Kind}
 use Rattle.text_grammar.specs.declared.places.Place.{Place}

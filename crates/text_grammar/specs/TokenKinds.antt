@@ -1,12 +1,12 @@
 -- The kind of a token by its bytes.
-use Rattle.std.specs.Prelude.{ℕ, ◌+◌, ◌*◌, ◌-◌, ◌^◌, ◌==◌, ◌&&◌, ◌||◌, Bool, true, false, List, [], ◌∷◌, drop, codes, if◌then◌else◌, nat_lt, nat_le}
+use Rattle.std.specs.Prelude.{ℕ, ◌+◌, ◌*◌, ◌-◌, ◌^◌, ◌==◌, ◌&&◌, ◌||◌, Bool, false, List, [], ◌∷◌, drop, codes, if◌then◌else◌, nat_le}
 use Rattle.std.specs.List.{list_all, list_any}
 use Rattle.std.specs.Str.{bytes_eq}
 use Rattle.mlir_lex.specs.Bytes.{is_digit}
 use Rattle.mlir_lex.specs.declared.TokenKind.{TokenKind}
 use Rattle.mlir_lex.specs.declared.TokenKind.TheVariants as token
 use Rattle.text_grammar.specs.declared.kinds.Kind.{Kind}
-use Rattle.text_grammar.specs.declared.kinds.Kind.TheVariants.{Value, Label, SymbolName, Text, Number, HashName, HashNumber, HashDotted, TypeName, TypePlain, TypeStruct, TypeArray, TypeFunction, TypeDotted, WordX, WordLoc, WordUnknown, WordBool, WordWidth, WordInteger, WordMemref, WordArray, WordPlain, WordStruct, WordFunction, Word, Dimension, DimensionX, OpenParen, CloseParen, OpenSquare, CloseSquare, OpenBrace, CloseBrace, Less, Greater, Comma, Colon, Equals, Question, Minus, Arrow, DoubleColon}
+use Rattle.text_grammar.specs.declared.kinds.Kind.TheVariants.{Value, Label, SymbolName, Text, Number, HashName, HashNumber, HashDotted, TypeName, TypePlain, TypeStruct, TypeArray, TypeFunction, TypeDotted, WordX, WordLoc, WordUnknown, WordBool, WordWidth, WordInteger, WordMemref, WordArray, WordPlain, WordStruct, WordFunction, Word, Dimension, OpenParen, CloseParen, OpenSquare, CloseSquare, OpenBrace, CloseBrace, Less, Greater, Comma, Colon, Equals, Question, Minus, Arrow, DoubleColon}
 
 -- the name has a dot
 abbrev pub has_dot : List ℕ → Bool

@@ -18,7 +18,7 @@ fn ends(rt: &impl Abort, alloc: Global, text: &[u8], end: Option<usize>) -> Resu
 fn operations(rt: HostRuntime) -> Result<(), Fail> {
     ends(&rt, rt.alloc(), b"", None)?;
     ends(&rt, rt.alloc(), b"\"t.x\"() : () -> ()", None)?;
-    ends(&rt, rt.alloc(), b"\"t.x\"() : () ->", Some(6))
+    ends(&rt, rt.alloc(), b"\"t.x\"() : () ->", Some(7))
 }
 
 #[test]

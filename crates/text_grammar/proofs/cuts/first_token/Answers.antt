@@ -1,4 +1,3 @@
-use Rattle.std.proofs.Common.{rules}
 use Rattle.text_grammar.proofs.WordLemmas.{first_given}
 use Rattle.text_grammar.proofs.cuts.first_token.Goals as goal
 
