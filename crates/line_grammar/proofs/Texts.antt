@@ -11,6 +11,7 @@ use Rattle.line_grammar.proofs.Sound.{Takes, next_takes, gives_found}
 use Rattle.line_grammar.proofs.Stacks.{Good, GoodStep, good_step, good_start}
 use Rattle.line_grammar.proofs.Complete.{Nexts, nexts, reads_ends}
 use Rattle.line_grammar.proofs.Made.{Lives, lives}
+use Rattle.line_grammar.proofs.Theorems.{gives_only, one_reading}
 
 -- where no event is the first at which the test stands, it stands at none
 none_clean_step : (b c : Bool) (o : Option ℕ) → (o ≡ None → c ≡ true) → ◌≡◌ {A = Option ℕ} (elim b [ true ↦ Some 0 | false ↦ one_later o ]) None → elim b [ true ↦ false | false ↦ c ] ≡ true
@@ -46,13 +47,13 @@ clean_case : (a b : Bool) → a ≡ false → b ≡ true → elim a [ true ↦ f
 clean_case true b e h = absurd cc
 clean_case false b e h = h
 
-plain_clean : {P N K T S : Type 0} (l : Language P N K T S) (plain : P → Bool) → ((s : S) (p : P) (t : T) → plain p ≡ true → l.stands s (p, t) ≡ false)
-    → (s : S) (ps : List P) (ts : List T) → all_in plain ps ≡ true → clean l.step l.stands s (events ps ts) ≡ true
-plain_clean l plain never s [] ts h = refl
-plain_clean l plain never s (p ∷ ps) [] h = refl
-plain_clean l plain never s (p ∷ ps) (t ∷ ts) h =
-    clean_case (l.stands s (p, t)) (clean l.step l.stands (l.step s (p, t)) (events ps ts)) (never s p t (both_left (plain p) (all_in plain ps) h))
-    (plain_clean l plain never (l.step s (p, t)) ps ts (both_right (plain p) (all_in plain ps) h))
+plain_clean : {P N K T S : Type 0} (l : Language P N K T S) (plain : P → Bool) (token : K → T) → ((s : S) (p : P) (k : K) → plain p ≡ true → l.stands s (p, token k) ≡ false)
+    → (s : S) (ps : List P) (ks : List K) → all_in plain ps ≡ true → clean l.step l.stands s (events ps (map token ks)) ≡ true
+plain_clean l plain token never s [] ks h = refl
+plain_clean l plain token never s (p ∷ ps) [] h = refl
+plain_clean l plain token never s (p ∷ ps) (k ∷ ks) h =
+    clean_case (l.stands s (p, token k)) (clean l.step l.stands (l.step s (p, token k)) (events ps (map token ks))) (never s p k (both_left (plain p) (all_in plain ps) h))
+      (plain_clean l plain token never (l.step s (p, token k)) ps ks (both_right (plain p) (all_in plain ps) h))
 
 begun_here : {P N K T S : Type 0} {l : Language P N K T S} {every : List K} {follow : N → K → Bool} {plain : P → Bool} → IsLanguage l every follow plain
     → (ss : List (Symbol P N)) (s : S) → Good l.grammar follow plain ss → BeginsTextFrom l ss s []
@@ -64,7 +65,7 @@ begun_here {P = P} {K = K} {l = l} {plain = plain} is ss s good =
         found.places,
         (
           subst R (sym (tokens_of l is.token is.token_is found.kinds)) found.reads,
-          plain_clean l plain is.never s found.places (map is.token found.kinds) found.plain_ones,
+          plain_clean l plain is.token is.never s found.places found.kinds found.plain_ones,
         ),
       ),
     )
@@ -206,3 +207,28 @@ pub text_ends : {P N K T S : Type 0} {l : Language P N K T S} {every : List K} {
     → (ts : List T) (ps : List P) → (run l.grammar l.start (map l.kind ts)).0 ≡ ps
     → IfSome (or_end (first_at l.step l.stands l.first (events ps ts)) (whole l.grammar (run l.grammar l.start (map l.kind ts))) (length ps)) (λ n. EndsText l ts (drop n ts))
 text_ends {l = l} is ts ps same = rw (← same) (text_ends_from is l.start l.first ts (good_start is.ll))
+
+-- Each text is found
+
+clean_none_step : (b c : Bool) (o : Option ℕ) → (c ≡ true → o ≡ None) → elim b [ true ↦ false | false ↦ c ] ≡ true → ◌≡◌ {A = Option ℕ} (elim b [ true ↦ Some 0 | false ↦ one_later o ]) None
+clean_none_step true c o more h = absurd cc
+clean_none_step false c o more h = rw (more h) refl
+
+clean_none : {S E : Type 0} (step : S → E → S) (stands : S → E → Bool) (s : S) (es : List E) → clean step stands s es ≡ true → first_at step stands s es ≡ None
+clean_none step stands s [] h = refl
+clean_none step stands s (x ∷ es) h =
+    clean_none_step (stands s x) (clean step stands (step s x) es) (first_at step stands (step s x) es) (clean_none step stands (step s x) es) h
+
+-- a text is found, at its places
+pub text_only : {P N K T S : Type 0} {l : Language P N K T S} {every : List K} {follow : N → K → Bool} {plain : P → Bool} → IsLanguage l every follow plain
+    → (ts : List T) (ps qs : List P) → ReadsText l ps ts → (run l.grammar l.start (map l.kind ts)).0 ≡ qs
+    → (qs ≡ ps) × (or_end (first_at l.step l.stands l.first (events qs ts)) (whole l.grammar (run l.grammar l.start (map l.kind ts))) (length qs) ≡ None)
+text_only {l = l} is ts ps qs reads same =
+    let found = gives_only is.ll ps (map l.kind ts) reads.0 in
+    let e : qs ≡ ps = sym same ∙ found.0 in
+    (e, rw (e, found.1, clean_none l.step l.stands l.first (events ps ts) reads.1) refl)
+
+-- and in one way
+pub one_text : {P N K T S : Type 0} {l : Language P N K T S} {every : List K} {follow : N → K → Bool} {plain : P → Bool} → IsLanguage l every follow plain
+    → (ts : List T) (ps qs : List P) → ReadsText l ps ts → ReadsText l qs ts → ps ≡ qs
+one_text {l = l} is ts ps qs r s = one_reading is.ll ps qs (map l.kind ts) r.0 s.0

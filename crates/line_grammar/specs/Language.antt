@@ -88,5 +88,5 @@ pub record IsLanguage {P N K T S : Type 0} (l : Language P N K T S) (every : Lis
   -- each kind has a token
   pub token : K → T
   pub token_is : (k : K) → l.kind (token k) ≡ k
-  -- the test stands at no plain place
-  pub never : (s : S) (p : P) (t : T) → plain p ≡ true → l.stands s (p, t) ≡ false
+  -- the test stands at no plain place, at such a token
+  pub never : (s : S) (p : P) (k : K) → plain p ≡ true → l.stands s (p, token k) ≡ false

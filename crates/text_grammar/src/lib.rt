@@ -1,0 +1,29 @@
+//! The grammar of MLIR's generic text, and the machine that reads it: each token gets its place in the grammar, and a fault of form its own.
+#![tactic(auto)]
+
+ghost use Rattle.text_grammar.specs.Laws.{ReadsOnce};
+
+mod cuts;
+mod kinds;
+mod long_numbers;
+mod machine;
+mod parts;
+mod places;
+mod reading;
+mod token_kinds;
+mod words;
+
+pub use cuts::{Words, cut};
+pub use kinds::Kind;
+pub use parts::{Part, Row, Wanted, lines, may_be_left_out};
+pub use places::{Place, fits};
+pub use reading::{Reading, read};
+pub use words::Word;
+
+/// A text is read in one way: each of its words stands at one place.
+pub fn law_one_reading()
+    ensures { ReadsOnce }
+{}
+
+#[cfg(test)]
+mod tests;
