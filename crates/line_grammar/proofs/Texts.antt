@@ -53,7 +53,7 @@ plain_clean l plain token never s [] ks h = refl
 plain_clean l plain token never s (p ∷ ps) [] h = refl
 plain_clean l plain token never s (p ∷ ps) (k ∷ ks) h =
     clean_case (l.stands s (p, token k)) (clean l.step l.stands (l.step s (p, token k)) (events ps (map token ks))) (never s p k (both_left (plain p) (all_in plain ps) h))
-      (plain_clean l plain token never (l.step s (p, token k)) ps ks (both_right (plain p) (all_in plain ps) h))
+    (plain_clean l plain token never (l.step s (p, token k)) ps ks (both_right (plain p) (all_in plain ps) h))
 
 begun_here : {P N K T S : Type 0} {l : Language P N K T S} {every : List K} {follow : N → K → Bool} {plain : P → Bool} → IsLanguage l every follow plain
     → (ss : List (Symbol P N)) (s : S) → Good l.grammar follow plain ss → BeginsTextFrom l ss s []
