@@ -16,3 +16,6 @@ pub mod RenamedConversion
 pub mod FreshLaws
 pub mod UnusedLaws
 pub mod WrittenLaws
+pub mod OnceLemmas
+pub mod OnceItems
+pub mod OnceStages
