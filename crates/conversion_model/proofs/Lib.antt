@@ -19,3 +19,5 @@ pub mod WrittenLaws
 pub mod OnceLemmas
 pub mod OnceItems
 pub mod OnceStages
+pub mod OnceChoice
+pub mod OnceFresh
