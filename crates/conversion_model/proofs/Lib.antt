@@ -21,3 +21,5 @@ pub mod OnceItems
 pub mod OnceStages
 pub mod OnceChoice
 pub mod OnceFresh
+pub mod OnceBlocks
+pub mod OnceConversion

@@ -38,7 +38,7 @@ both_by : (a b : Bool) → (a && b) ≡ true → (a ≡ true) × (b ≡ true)
 both_by true b is = (refl, is)
 both_by false b is = absurd (true≢false (sym is))
 
-both : (m n j k : ℕ) → ((m == n) && (j == k)) ≡ true → (m ≡ n) × (j ≡ k)
+pub both : (m n j k : ℕ) → ((m == n) && (j == k)) ≡ true → (m ≡ n) × (j ≡ k)
 both m n j k is = (eqb-true m n (both_by (m == n) (j == k) is).0, eqb-true j k (both_by (m == n) (j == k) is).1)
 
 keys_same : (p q : Place) → same_place p q ≡ true → (key_number p ≡ key_number q) × (key_piece p ≡ key_piece q)
@@ -100,6 +100,10 @@ label_few new f fresh l n room = record {
       let there : NamedAt l (new.row n).label 0 = named_at l (new.row n).label 0 room some in
       record { number = n; piece = 0; has = record { index = there.place; is = there.is; piece = refl }; inside = (refl, refl) };
 }
+
+pub block_most : (new : Supply) (f : Op) → Fresh new f → (v label room : ℕ) → named_count v (new.argument label) 0 room ≤ 1
+block_most new f fresh v label room =
+    named_most v (new.argument label) (λ j k a b. (both label label j k (places_same new f fresh v (of_block label j) (of_block label k) a b)).1) 0 room
 
 -- Old numbers
 

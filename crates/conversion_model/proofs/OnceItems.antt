@@ -34,7 +34,7 @@ pub record WaysOnce (value label : ℕ → ℕ) (Has : ℕ → ℕ → Type 0) (
       → Bound Has (Just n 0) (values_total value (results_of o) + region_heads value label (regions_of o)) (pieces_total value label c.1)
   pub held : (n : ℕ) (o : Op) (c : ℕ × List Piece) → w.cuts n o ≡ Some c → (r b : ℕ) → held_count r b c.1 ≤ 1
 
-puts_total : (value label : ℕ → ℕ) (os : List Op) (more : List Item) → items_total value label (puts os more) ≡ list_total value label os + items_total value label more
+pub puts_total : (value label : ℕ → ℕ) (os : List Op) (more : List Item) → items_total value label (puts os more) ≡ list_total value label os + items_total value label more
 puts_total value label [] more = omega arith
 puts_total value label (o ∷ os) more = omega (arith, puts_total value label os more)
 

@@ -83,7 +83,7 @@ reconciled_total value label f =
 
 -- What counts is there
 
-either_part : {Goal : Type 0} (a b : ℕ) → (1 ≤ a → Goal) → (1 ≤ b → Goal) → 1 ≤ a + b → Goal
+pub either_part : {Goal : Type 0} (a b : ℕ) → (1 ≤ a → Goal) → (1 ≤ b → Goal) → 1 ≤ a + b → Goal
 either_part zero b left right some = right (omega (arith, some))
 either_part (suc a) b left right some = left (omega arith)
 
