@@ -1,5 +1,5 @@
 -- Block arguments in converted types: each new one is of its block's label.
-use Rattle.std.proofs.Common.{◌≡◌, ℕ, zero, suc, ◌+◌, ◌≤◌, Bool, true, false, List, [], ◌∷◌, Option, Some, None, refl, arith, length}
+use Rattle.std.proofs.Common.{◌≡◌, ℕ, ◌+◌, ◌≤◌, Bool, true, false, [], ◌∷◌, Option, Some, None, arith, length}
 use Rattle.plain_tree.specs.Types.{PlainType}
 use Rattle.plain_tree.specs.Ops.{Op, op, Ops, end_of_ops, more_ops, Regions, end_of_regions, region, Blocks, end_of_blocks, block, Values}
 use Rattle.conversion_model.specs.Types.{new_type}
@@ -27,7 +27,7 @@ one_argument v new a (Some u) args more = omega arith
 
 arguments_most : (v bits : ℕ) (new : ℕ → ℕ) (k : ℕ) (args : Values) (more : Ops)
     → values_total (hits v) (new_arguments bits new k args) + ops_total (hits v) none (casts_back bits new k args more)
-      ≤ values_total (hits v) args + named_count v new k (length args) + ops_total (hits v) none more
+    ≤ values_total (hits v) args + named_count v new k (length args) + ops_total (hits v) none more
 arguments_most v bits new k [] more = omega arith
 arguments_most v bits new k (a ∷ args) more =
     omega (

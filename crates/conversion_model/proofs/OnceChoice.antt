@@ -4,10 +4,10 @@ use Rattle.std.specs.Prelude.{is_some, ⊤, if◌then◌else◌}
 use Rattle.plain_tree.specs.Types.{PlainType}
 use Rattle.plain_tree.specs.Ops.{Op}
 use Rattle.conversion_model.specs.Templates.{Template}
-use Rattle.conversion_model.specs.Targets.{Target, demanded, is_legal, name_of, shape_of}
+use Rattle.conversion_model.specs.Targets.{Target, is_legal, name_of, shape_of}
 use Rattle.conversion_model.specs.Rows.{Row, Straight, Cutting, Framing, Pattern, Numbers, Piece, Frame}
 use Rattle.conversion_model.specs.Chosen.{Leaves, Ranked, and_then, or_else, by_row, change_of, chosen, depth, goes_before, has_root, in_order, order, pattern_depth, put_in, ranked}
-use Rattle.conversion_model.specs.Choice.{Choice, Stays, Line, Cuts, Frames, all_legalised, choice, entry_leaves, first_arguments, first_choice, frame_shape, framed, row_choice}
+use Rattle.conversion_model.specs.Choice.{Choice, Stays, Line, Cuts, Frames, all_legalised, choice, entry_leaves, first_choice, frame_shape, framed, row_choice}
 use Rattle.conversion_model.specs.Conversion.{pieces_of}
 use Rattle.conversion_model.specs.Counts.{PiecesOnce, RowOnce, TableOnce}
 

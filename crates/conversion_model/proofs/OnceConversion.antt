@@ -2,19 +2,18 @@
 use Rattle.std.proofs.Common.{◌≡◌, ℕ, zero, suc, ◌+◌, ◌==◌, ◌≤◌, Bool, true, false, List, [], ◌∷◌, Option, Some, None, refl, sym, ap, ◌∙◌, subst, arith, length, true≢false}
 use Rattle.std.specs.Prelude.{◌&&◌, not, Result, Ok, Err, flat_map, if◌then◌else◌}
 use Rattle.plain_tree.specs.Types.{PlainType}
-use Rattle.plain_tree.specs.Ops.{Op, op, Ops, Regions, end_of_regions, region, Blocks, end_of_blocks, block, Values}
+use Rattle.plain_tree.specs.Ops.{Op, op, Regions, end_of_regions, region, end_of_blocks, block, Values}
 use Rattle.conversion_model.specs.declared.templates.Source.{Source}
 use Rattle.conversion_model.specs.Templates.{Step, Template, copies, copy, named, number_of, numbers, steps_written, values_made, written}
-use Rattle.conversion_model.specs.Targets.{Shape, Mode, Partial, Full, demanded, is_legal, shape_of}
-use Rattle.conversion_model.specs.Rows.{Frame, Part, Piece, Pattern}
+use Rattle.conversion_model.specs.Targets.{Mode, Partial, Full, demanded, is_legal, shape_of}
+use Rattle.conversion_model.specs.Rows.{Frame, Part}
 use Rattle.conversion_model.specs.Chosen.{chosen, made_by}
 use Rattle.conversion_model.specs.Choice.{Choice, Stays, Line, Cuts, Frames}
-use Rattle.conversion_model.specs.Items.{From, HeldBlock, Begins, Ways, blocks_size, held_blocks, held_regions, items, ops_size, puts, regions_size, text_of, whole_items, whole_regions}
+use Rattle.conversion_model.specs.Items.{Begins, Ways, blocks_size, held_blocks, held_regions, items, ops_size, puts, regions_size, whole_items, whole_regions}
 use Rattle.conversion_model.specs.Uses.{copies_left_out, operations, types_of}
-use Rattle.conversion_model.specs.Reconciled.{reconciled, results_of}
-use Rattle.conversion_model.specs.Conversion.{Pass, Supply, Unlegalised, choice_in, conv, converted, finished, first_unlegalised, function_by, is_source, line_by, line_of, or_fails, params_from, params_of, regions_of, replacements, ways, with_blocks}
-use Rattle.conversion_model.specs.Fresh.{of_block, same_place, new_value, Fresh, IsOld}
-use Rattle.conversion_model.specs.Counts.{blocks_total, ConversionOnce, DefinesOnce, LabelsOnce, hits, held_count, label_count, list_total, named_count, none, op_count, op_total, ops_total, pieces_total, PiecesOnce, region_heads, regions_total, TableOnce, values_count, values_total}
+use Rattle.conversion_model.specs.Conversion.{Pass, Supply, Unlegalised, choice_in, converted, finished, first_unlegalised, function_by, is_source, line_by, or_fails, params_from, params_of, regions_of, replacements, ways, with_blocks}
+use Rattle.conversion_model.specs.Fresh.{of_block, Fresh}
+use Rattle.conversion_model.specs.Counts.{blocks_total, ConversionOnce, DefinesOnce, LabelsOnce, hits, label_count, list_total, named_count, none, op_count, op_total, ops_total, PiecesOnce, regions_total, TableOnce, values_total}
 use Rattle.conversion_model.proofs.ReconcileLaws.{same_number}
 use Rattle.conversion_model.proofs.WrittenLaws.{written_once}
 use Rattle.conversion_model.proofs.OnceLemmas.{Few, Found, Just, NamedAt, Range, Unique, few_none, join, named_at, wider}
@@ -154,22 +153,22 @@ function_bound value label w new one once frame (op k results operands regions s
 function_bound value label w new one once frame (op k results operands end_of_regions successors) (Some (Frames fr entry)) = record { extra = 0; few = few_none; most = omega arith }
 function_bound {Has = Has} value label w new one once frame (op k results operands (region end_of_blocks more) successors) (Some (Frames fr entry)) =
     let whole : Bound Has (Range (1 + blocks_size end_of_blocks) (1 + blocks_size end_of_blocks + regions_size more)) (regions_total value label more) (regions_total value label (whole_regions (held_regions w (1 + blocks_size end_of_blocks) more))) =
-        whole_regions_bound w one once (1 + blocks_size end_of_blocks) more in
+    whole_regions_bound w one once (1 + blocks_size end_of_blocks) more in
     record { extra = whole.extra; few = wider (λ i j p e. absurd (omega (arith, p.0, e))) whole.few; most = omega (arith, whole.most) }
 function_bound {Has = Has} value label w new one once frame (op k results operands (region (block l args ops bs) more) successors) (Some (Frames fr entry)) =
     let start : Bound Has (Just 0 0) (values_total value args) (list_total value label (written (new.value 0 0) args (numbers (params_of new fr)) [] entry [])) = frame.start args fr entry in
     let params : Bound Has (Just 0 1) 0 (values_total value (params_of new fr)) = frame.params fr in
     let first : Adds value label Has (Range 1 (1 + ops_size ops)) (ops_total value label ops) (items w false 1 ops) = items_adds w one once false 1 ops in
     let others : Bound Has (Range (1 + ops_size ops) (1 + ops_size ops + blocks_size bs)) (blocks_total value label bs) (items_total value label (whole_items (held_blocks w (1 + ops_size ops) bs))) =
-        whole_blocks_bound w one once (1 + ops_size ops) bs in
+    whole_blocks_bound w one once (1 + ops_size ops) bs in
     let after : ℕ = 1 + (ops_size ops + blocks_size bs) in
     let rest : Bound Has (Range after (after + regions_size more)) (regions_total value label more) (regions_total value label (whole_regions (held_regions w after more))) = whole_regions_bound w one once after more in
     let root : Few Has Root (start.extra + params.extra) =
-        join start.extra params.extra one (λ i j p q. omega (arith, p.1, q.1)) (λ i j p. (p.0, omega (arith, p.1))) (λ i j p. (p.0, omega (arith, p.1))) start.few params.few in
+    join start.extra params.extra one (λ i j p q. omega (arith, p.1, q.1)) (λ i j p. (p.0, omega (arith, p.1))) (λ i j p. (p.0, omega (arith, p.1))) start.few params.few in
     let blocks : Few Has (Range 1 after) (first.extra + others.extra) =
-        join first.extra others.extra one (λ i j p q. omega (arith, p.1, q.0)) (λ i j p. (p.0, omega (arith, p.1))) (λ i j p. (omega (arith, p.0), omega (arith, p.1))) first.few others.few in
+    join first.extra others.extra one (λ i j p q. omega (arith, p.1, q.0)) (λ i j p. (p.0, omega (arith, p.1))) (λ i j p. (omega (arith, p.0), omega (arith, p.1))) first.few others.few in
     let all : Few Has (Range 1 (after + regions_size more)) (first.extra + others.extra + rest.extra) =
-        join (first.extra + others.extra) rest.extra one (λ i j p q. omega (arith, p.1, q.0)) (λ i j p. (p.0, omega (arith, p.1))) (λ i j p. (omega (arith, p.0), p.1)) blocks rest.few in
+    join (first.extra + others.extra) rest.extra one (λ i j p q. omega (arith, p.1, q.0)) (λ i j p. (p.0, omega (arith, p.1))) (λ i j p. (omega (arith, p.0), p.1)) blocks rest.few in
     record {
       extra = (start.extra + params.extra) + (first.extra + others.extra + rest.extra);
       few = join (start.extra + params.extra) (first.extra + others.extra + rest.extra) one (λ i j p q. omega (arith, p.0, q.0)) (λ i j p e. p.1) (λ i j p e. absurd (omega (arith, p.0, e))) root all;
@@ -208,8 +207,8 @@ replaced_values p bits new f all fresh once v =
       arith,
       bound.most,
       old_or (op_count v f) bound.extra
-      (λ old some. let found : Found (HasValue new v) Used = bound.few.from some in old_or_new new v found.number found.piece (value_old new f fresh v old) found.has)
-      (once v) bound.few.most,
+          (λ old some. let found : Found (HasValue new v) Used = bound.few.from some in old_or_new new v found.number found.piece (value_old new f fresh v old) found.has)
+          (once v) bound.few.most,
     )
 
 replaced_labels : (p : Pass) (bits : ℕ) (new : Supply) (f : Op) → TableOnce bits p.table → Fresh new f → LabelsOnce f → LabelsOnce (replacements p bits new f)
@@ -219,8 +218,8 @@ replaced_labels p bits new f all fresh once l =
       arith,
       bound.most,
       old_or (label_count l f) bound.extra
-      (λ old some. let found : Found (HasLabel new l) Used = bound.few.from some in label_old_or_new new l found.number found.piece (label_old new f fresh l old) found.has)
-      (once l) bound.few.most,
+          (λ old some. let found : Found (HasLabel new l) Used = bound.few.from some in label_old_or_new new l found.number found.piece (label_old new f fresh l old) found.has)
+          (once l) bound.few.most,
     )
 
 -- Block arguments
@@ -268,13 +267,14 @@ blocks_once p bits new f all fresh once labels false v = omega (arith, copies_to
 blocks_once p bits new f all fresh once labels true v =
     let g : Op = replacements p bits new f in
     let more : More v new.argument (op_total (hits v) none (copies_left_out g)) (op_total (hits v) none (with_blocks true bits new (copies_left_out g))) (λ l. op_total none (hits l) (copies_left_out g)) =
-        op_more v bits new.argument (copies_left_out g) in
+    op_more v bits new.argument (copies_left_out g) in
     blocks_by (op_count v (copies_left_out g)) more.extra (op_count v (with_blocks true bits new (copies_left_out g))) more.most
     (omega (arith, copies_total (hits v) none g, replaced_values p bits new f all fresh once v))
     (λ some.
-    let there : NamedBlock v new.argument = more.found some in
-    (omega (arith, copies_total (hits v) none g, argument_new p bits new f all fresh v there),
-     omega (arith, more.within there.label (one_block new f fresh v there), copies_total none (hits there.label) g, replaced_labels p bits new f all fresh labels there.label)))
+    let there : NamedBlock v new.argument = more.found some in (
+      omega (arith, copies_total (hits v) none g, argument_new p bits new f all fresh v there),
+      omega (arith, more.within there.label (one_block new f fresh v there), copies_total none (hits there.label) g, replaced_labels p bits new f all fresh labels there.label),
+    ))
 
 finished_once : (v : ℕ) (mode : Mode) (g : Op) → op_count v (finished mode g) ≤ op_count v g
 finished_once v Partial g = omega arith

@@ -1,15 +1,15 @@
 -- Items define what the operations do that they are of, and at most one new number.
-use Rattle.std.proofs.Common.{◌≡◌, ℕ, zero, suc, ◌+◌, ◌==◌, ◌≤◌, ◌<◌, Bool, true, false, List, [], ◌∷◌, Option, Some, None, refl, sym, ap, ◌∙◌, subst, arith, true≢false}
+use Rattle.std.proofs.Common.{◌≡◌, ℕ, zero, suc, ◌+◌, ◌==◌, ◌≤◌, Bool, true, false, List, [], ◌∷◌, Option, Some, None, refl, arith, true≢false}
 use Rattle.std.specs.Prelude.{◌&&◌, if◌then◌else◌}
 use Rattle.std.proofs.lemmas.Bool.{eqb-true}
-use Rattle.plain_tree.specs.Ops.{Op, op, Ops, end_of_ops, more_ops, Regions, end_of_regions, region, Blocks, end_of_blocks, block, Values}
+use Rattle.plain_tree.specs.Ops.{Op, op, Ops, end_of_ops, more_ops, Regions, end_of_regions, region, Blocks, end_of_blocks, block}
 use Rattle.conversion_model.specs.Targets.{Shape, goes_with_holder, name_of, shape_with}
 use Rattle.conversion_model.specs.Rows.{Piece, Product, Opens, Held, Stands}
-use Rattle.conversion_model.specs.Items.{From, HeldBlock, Item, Puts, Begins, Text, Ways, blocks_size, cut, held_at, held_blocks, held_in, held_regions, items, op_at, op_items, op_size, ops_size, puts, regions_size, text_of, whole_items, whole_regions}
+use Rattle.conversion_model.specs.Items.{From, HeldBlock, Item, Puts, Begins, Ways, blocks_size, cut, held_at, held_blocks, held_in, held_regions, items, op_at, op_items, op_size, ops_size, puts, regions_size, text_of, whole_items, whole_regions}
 use Rattle.conversion_model.specs.Reconciled.{results_of}
 use Rattle.conversion_model.specs.Conversion.{regions_of}
 use Rattle.conversion_model.specs.Counts.{block_heads, blocks_total, held_count, list_total, op_total, ops_total, pieces_total, region_heads, regions_total, values_total}
-use Rattle.conversion_model.proofs.OnceLemmas.{Unique, Few, few_none, Range, Behind, Just, Apart, Part, join, wider, amount_at, amount_in, held_most, held_sum, sum_at, sum_in}
+use Rattle.conversion_model.proofs.OnceLemmas.{Unique, Few, few_none, Range, Behind, Just, join, wider, amount_at, amount_in, held_most, held_sum, sum_at, sum_in}
 
 abbrev pub items_total : (ℕ → ℕ) → (ℕ → ℕ) → List Item → ℕ
 items_total value label [] = 0
@@ -149,7 +149,7 @@ at_adds {value = value} {label = label} {Has = Has} {hs = hs} w one once n size 
     let here : Bound Has (Just n 0) (values_total value (results_of source) + region_heads value label (regions_of source)) (pieces_total value label c.1) = once.cuts n source c is in
     let pieces : CutAdds value label Has (Behind n 1) held.amounts c.1 (cut w n c.0 hs 1 c.1) = cut_adds w one once held.each n c.0 1 c.1 in
     let own : Few Has (Range n (n + 1)) (here.extra + pieces.extra) =
-        join here.extra pieces.extra one (λ i j p q. omega (arith, p.1, q.1)) (λ i j p. (omega (arith, p.0), omega (arith, p.0))) (λ i j p. (omega (arith, p.0), omega (arith, p.0))) here.few pieces.few in
+    join here.extra pieces.extra one (λ i j p q. omega (arith, p.1, q.1)) (λ i j p. (omega (arith, p.0), omega (arith, p.0))) (λ i j p. (omega (arith, p.0), omega (arith, p.0))) here.few pieces.few in
     record {
       extra = here.extra + pieces.extra + held.extra;
       few = join (here.extra + pieces.extra) held.extra one (λ i j p q. omega (arith, p.1, q.0)) (λ i j p. (p.0, omega (arith, p.1))) (λ i j p. (omega (arith, p.0), omega (arith, p.1))) own held.few;
@@ -177,7 +177,7 @@ mutual
       → Adds value label Has (Range n (n + op_size o)) (op_total value label o) (op_items w n o)
   op_items_adds {value = value} {label = label} {Has = Has} w one once n (op k results operands regions successors) =
       let whole : Bound Has (Range (n + 1) (n + 1 + regions_size regions)) (regions_total value label regions) (regions_total value label (whole_regions (held_regions w (n + 1) regions))) =
-          whole_regions_bound w one once (n + 1) regions in
+      whole_regions_bound w one once (n + 1) regions in
       at_adds w one once n (regions_size regions) (op k results operands regions successors) (op k results operands (whole_regions (held_regions w (n + 1) regions)) successors)
       (w.cuts n (op k results operands regions successors)) refl
       (held_regions_bound w one once (n + 1) regions)
@@ -190,7 +190,7 @@ mutual
   whole_regions_bound {value = value} {label = label} {Has = Has} w one once n (region blocks more) =
       let here : Bound Has (Range n (n + blocks_size blocks)) (blocks_total value label blocks) (items_total value label (whole_items (held_blocks w n blocks))) = whole_blocks_bound w one once n blocks in
       let rest : Bound Has (Range (n + blocks_size blocks) (n + blocks_size blocks + regions_size more)) (regions_total value label more) (regions_total value label (whole_regions (held_regions w (n + blocks_size blocks) more))) =
-          whole_regions_bound w one once (n + blocks_size blocks) more in
+      whole_regions_bound w one once (n + blocks_size blocks) more in
       record {
         extra = here.extra + rest.extra;
         few = join here.extra rest.extra one (λ i j p q. omega (arith, p.1, q.0)) (λ i j p. (p.0, omega (arith, p.1))) (λ i j p. (omega (arith, p.0), omega (arith, p.1))) here.few rest.few;
@@ -203,7 +203,7 @@ mutual
   whole_blocks_bound {value = value} {label = label} {Has = Has} w one once n (block l args ops more) =
       let here : Adds value label Has (Range n (n + ops_size ops)) (ops_total value label ops) (items w false n ops) = items_adds w one once false n ops in
       let rest : Bound Has (Range (n + ops_size ops) (n + ops_size ops + blocks_size more)) (blocks_total value label more) (items_total value label (whole_items (held_blocks w (n + ops_size ops) more))) =
-          whole_blocks_bound w one once (n + ops_size ops) more in
+      whole_blocks_bound w one once (n + ops_size ops) more in
       record {
         extra = here.extra + rest.extra;
         few = join here.extra rest.extra one (λ i j p q. omega (arith, p.1, q.0)) (λ i j p. (p.0, omega (arith, p.1))) (λ i j p. (omega (arith, p.0), omega (arith, p.1))) here.few rest.few;
@@ -216,7 +216,7 @@ mutual
   held_regions_bound {value = value} {label = label} {Has = Has} w one once n (region blocks more) =
       let here : HeldBound value label Has (Range n (n + blocks_size blocks)) blocks (held_blocks w n blocks) = held_blocks_bound w one once n blocks in
       let rest : HeldBounds value label Has (Range (n + blocks_size blocks) (n + blocks_size blocks + regions_size more)) more (held_regions w (n + blocks_size blocks) more) =
-          held_regions_bound w one once (n + blocks_size blocks) more in
+      held_regions_bound w one once (n + blocks_size blocks) more in
       record {
         amounts = here.amounts ∷ rest.amounts;
         each = more_regions here.each rest.each;
@@ -231,7 +231,7 @@ mutual
   held_blocks_bound {value = value} {label = label} {Has = Has} w one once n (block l args ops more) =
       let here : Adds value label Has (Range n (n + ops_size ops)) (ops_total value label ops) (items w true n ops) = items_adds w one once true n ops in
       let rest : HeldBound value label Has (Range (n + ops_size ops) (n + ops_size ops + blocks_size more)) more (held_blocks w (n + ops_size ops) more) =
-          held_blocks_bound w one once (n + ops_size ops) more in
+      held_blocks_bound w one once (n + ops_size ops) more in
       record {
         amounts = (ops_total value label ops + here.extra) ∷ rest.amounts;
         each = more_amounts (λ xs. here.adds xs) rest.each;

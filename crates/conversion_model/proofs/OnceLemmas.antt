@@ -1,9 +1,9 @@
 -- At most one new number: which operation and which piece it is of.
-use Rattle.std.proofs.Common.{◌≡◌, ℕ, zero, suc, ◌+◌, ◌==◌, ◌≤◌, ◌<◌, Bool, true, false, List, [], ◌∷◌, refl, sym, ap, ◌∙◌, subst, arith, true≢false}
+use Rattle.std.proofs.Common.{◌≡◌, ℕ, zero, suc, ◌+◌, ◌==◌, ◌≤◌, ◌<◌, Bool, true, false, List, [], ◌∷◌, refl, sym, ap, subst, arith, true≢false}
 use Rattle.std.specs.Prelude.{◌&&◌, if◌then◌else◌}
 use Rattle.std.proofs.lemmas.Bool.{eqb-true}
 use Rattle.conversion_model.specs.Rows.{Piece, Product, Opens, Held, Stands}
-use Rattle.conversion_model.specs.Counts.{held_count, hits, named_count}
+use Rattle.conversion_model.specs.Counts.{held_count, named_count}
 use Rattle.conversion_model.proofs.ReconcileLaws.{same_number}
 
 -- one new number is of one operation and one piece

@@ -1,5 +1,5 @@
 -- How often numbers are defined, and how often labels stand.
-use Rattle.std.specs.Prelude.{ℕ, zero, suc, ◌+◌, ◌==◌, ◌≤◌, ◌&&◌, ◌≡◌, List, [], ◌∷◌, Option, Some, Result, Ok, ⊤, if◌then◌else◌}
+use Rattle.std.specs.Prelude.{ℕ, zero, suc, ◌+◌, ◌==◌, ◌≤◌, ◌&&◌, ◌≡◌, List, [], ◌∷◌, Some, Ok, ⊤, if◌then◌else◌}
 use Rattle.plain_tree.specs.Types.{PlainType}
 use Rattle.plain_tree.specs.Ops.{Op, op, Ops, end_of_ops, more_ops, Regions, end_of_regions, region, Blocks, end_of_blocks, block, Values}
 use Rattle.conversion_model.specs.Templates.{Template, written}
