@@ -13,3 +13,4 @@ pub mod FoldExamples
 pub mod ScfRenames
 pub mod PassRenames
 pub mod ScfOnce
+pub mod PassOnce

@@ -1,5 +1,5 @@
 -- The rows of scf define only results, arguments of blocks and new values, and hold only blocks, each at most once.
-use Rattle.std.proofs.Common.{◌≡◌, ℕ, zero, suc, ◌+◌, ◌*◌, ◌==◌, ◌≤◌, Bool, true, false, List, [], ◌∷◌, Option, Some, None, refl, sym, ap, ◌∙◌, subst, arith, length, map, true≢false}
+use Rattle.std.proofs.Common.{◌≡◌, ℕ, zero, suc, ◌+◌, ◌*◌, ◌==◌, ◌≤◌, Bool, true, false, List, [], ◌∷◌, Option, Some, None, refl, sym, ap, subst, arith, length, map, true≢false}
 use Rattle.std.specs.Prelude.{ℤ, ◌&&◌, ⊤, is_some, if◌then◌else◌, codes}
 use Rattle.std.proofs.lemmas.Bool.{eqb-true}
 use Rattle.plain_tree.specs.Types.{PlainType}
@@ -219,7 +219,7 @@ later weight name j room = ap (λ n. up weight name n room) (twice j)
 
 tests_total : (value label : ℕ → ℕ) (new : Numbers) (type_of : ℕ → PlainType) (index j : ℕ) (numbers : List ℤ) (cases : List Single) (default : ℕ) (more : List Piece)
     → pieces_total value label (tests new type_of index j numbers cases default more)
-      ≤ up value new.value (2 * j) (double (length numbers)) + up label new.label (j + 1) (double (length numbers)) + pieces_total value label more
+    ≤ up value new.value (2 * j) (double (length numbers)) + up label new.label (j + 1) (double (length numbers)) + pieces_total value label more
 tests_total value label new type_of index j [] cases default more = omega arith
 tests_total value label new type_of index j (n ∷ []) [] default more = omega arith
 tests_total value label new type_of index j (n ∷ []) (c ∷ []) default more = omega arith
@@ -244,7 +244,7 @@ tests_held r b new type_of index j (n ∷ m ∷ numbers) (c ∷ cases) default m
 
 head_total : (value label : ℕ → ℕ) (new : Numbers) (type_of : ℕ → PlainType) (index : ℕ) (numbers : List ℤ) (cases : List Single) (default : ℕ) (more : List Piece)
     → pieces_total value label (head_pieces new type_of index numbers cases default more)
-      ≤ up value new.value 0 (double (length numbers)) + up label new.label 1 (double (length numbers)) + pieces_total value label more
+    ≤ up value new.value 0 (double (length numbers)) + up label new.label 1 (double (length numbers)) + pieces_total value label more
 head_total value label new type_of index [] cases default more = omega arith
 head_total value label new type_of index (n ∷ numbers) cases default more = tests_total value label new type_of index 0 (n ∷ numbers) cases default more
 
