@@ -16,3 +16,10 @@ pub mod RenamedConversion
 pub mod FreshLaws
 pub mod UnusedLaws
 pub mod WrittenLaws
+pub mod OnceLemmas
+pub mod OnceItems
+pub mod OnceStages
+pub mod OnceChoice
+pub mod OnceFresh
+pub mod OnceBlocks
+pub mod OnceConversion

@@ -1,6 +1,6 @@
 //! Laws of conversion, each the contract of a function that does nothing.
 
-ghost use Rattle.conversion_model.specs.Counts.{WrittenOnce};
+ghost use Rattle.conversion_model.specs.Counts.{ConversionOnce, WrittenOnce};
 ghost use Rattle.conversion_model.specs.Promises.{ConvertedIsOwn, NoCasts, NoPairBehind, NoPairLeft, NoUnusedCast, OwnTypes};
 
 /// The own types are those that the table maps to themselves, at each width, and each converted type is own.
@@ -25,4 +25,10 @@ pub fn law_reconciled()
 /// A template that is written down defines each result at most once, and each new number at most once.
 pub fn law_written_once()
     ensures { WrittenOnce }
+{}
+
+/// A conversion defines each number at most once where the function does, its labels stand once each, the new numbers are
+/// fresh, and each row that cuts keeps to its results, its blocks' arguments and its new values, each at most once.
+pub fn law_defined_once()
+    ensures { ConversionOnce }
 {}

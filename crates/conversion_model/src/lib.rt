@@ -4,5 +4,5 @@
 mod laws;
 mod templates;
 
-pub use laws::{law_no_casts, law_own_types, law_reconciled, law_written_once};
+pub use laws::{law_defined_once, law_no_casts, law_own_types, law_reconciled, law_written_once};
 pub use templates::{Source, SourceList, StepList, StepTree, TemplateTree};

@@ -12,3 +12,5 @@ pub mod ScfExamples
 pub mod FoldExamples
 pub mod ScfRenames
 pub mod PassRenames
+pub mod ScfOnce
+pub mod PassOnce

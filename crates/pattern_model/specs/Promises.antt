@@ -1,10 +1,11 @@
 -- What the laws of the patterns promise.
-use Rattle.std.specs.Prelude.{◌≡◌, ℕ, length, map}
+use Rattle.std.specs.Prelude.{◌≡◌, ℕ, Ok, length, map}
 use Rattle.pipeline_text.specs.declared.pass.PassName.{PassName}
 use Rattle.plain_tree.specs.Ops.{Op}
 use Rattle.conversion_model.specs.Conversion.{Supply}
 use Rattle.conversion_model.specs.Renamings.{RenAnswer}
 use Rattle.conversion_model.specs.Fresh.{Fresh, SameValue, SameLabel}
+use Rattle.conversion_model.specs.Counts.{DefinesOnce, LabelsOnce}
 use Rattle.pattern_model.specs.PassTable.{pass_tree}
 use Rattle.pattern_model.specs.ScfRows.{scf_set}
 use Rattle.pattern_model.specs.ExpandRows.{expand_set}
@@ -30,3 +31,8 @@ pub record TablesHold : Type 0 where
 abbrev pub SuppliesAgree : Type 0
 SuppliesAgree = (name : PassName) (bits : ℕ) (new other : Supply) (f : Op) → Fresh new f → Fresh other f
     → RenAnswer (SameValue new other) (SameLabel new other) (pass_tree name bits new f) (pass_tree name bits other f)
+
+-- what a pass makes of a function defines each number at most once, where the function does and no label stands twice in it
+abbrev pub PassesDefineOnce : Type 0
+PassesDefineOnce = (name : PassName) (bits : ℕ) (new : Supply) (f g : Op)
+    → Fresh new f → DefinesOnce f → LabelsOnce f → pass_tree name bits new f ≡ Ok g → DefinesOnce g

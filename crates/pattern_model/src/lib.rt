@@ -5,4 +5,4 @@
 
 mod laws;
 
-pub use laws::{law_renaming, law_tables};
+pub use laws::{law_defined_once, law_renaming, law_tables};
