@@ -1,6 +1,6 @@
 -- One empty table more.
-use Rattle.std.specs.Prelude.{◌≡◌, ℕ, ◌+◌, List, [], ◌∷◌, ◌++◌, Option, length}
-use Rattle.std.proofs.Common.{sym, ◌∙◌, ap, inl, inr, arith, length-append}
+use Rattle.std.specs.Prelude.{◌≡◌, ℕ, ◌+◌, List, [], ◌∷◌, ◌++◌, Option}
+use Rattle.std.proofs.Common.{sym, ◌∙◌, ap, inl, inr, length-append}
 use Rattle.intern_api.specs.declared.shard_table.ShardTable.{ShardTable}
 use Rattle.intern_api.specs.Empty.{AreEmpty}
 use Rattle.intern_api.proofs.EntriesLaws.{get_more}

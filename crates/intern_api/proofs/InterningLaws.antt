@@ -1,5 +1,5 @@
 -- How what an interner makes of keys follows step by step.
-use Rattle.std.specs.Prelude.{◌≡◌, ◌⊎◌, ◌<◌, ℕ, zero, suc, List, [], ◌∷◌, ◌++◌, Option, Some, None, Result, Ok, Err, IfOk, IfErr, OnOk, OnErr, slice_get, length, map}
+use Rattle.std.specs.Prelude.{◌≡◌, ◌⊎◌, ◌<◌, ℕ, zero, suc, List, [], ◌∷◌, ◌++◌, Some, None, Result, Ok, Err, IfOk, IfErr, OnOk, OnErr, slice_get, length, map}
 use Rattle.std.specs.List.{AllZip}
 use Rattle.std.proofs.Common.{sym, ◌∙◌, ap, subst, refl, inl, inr, append_assoc, arith, get_or, take, drop}
 use Rattle.std.proofs.lemmas.List.{append-nil, map-append}
@@ -14,8 +14,8 @@ use Rattle.tree_model.specs.declared.type_tree.TypeTree as type
 use Rattle.tree_model.specs.declared.type_tree.TypeTree.TheVariants as type_parts
 use Rattle.tree_model.specs.declared.attr_tree.AttrTree.{AttrTree}
 use Rattle.key_model.specs.Keys.{shard_number, key_hash}
-use Rattle.key_model.specs.Parts.{head_of, parts_of, values_of, types_of, IsWithin, itself, part}
-use Rattle.key_model.specs.Stands.{StandsFor, IsWithinLevels, IsLevel, Grows}
+use Rattle.key_model.specs.Parts.{head_of, parts_of, values_of, types_of, itself, part}
+use Rattle.key_model.specs.Stands.{IsWithinLevels, Grows}
 use Rattle.key_model.specs.StandsLaws as laws
 use Rattle.intern_api.specs.declared.fault.InternFault.{InternFault}
 use Rattle.intern_api.specs.declared.fault.InternFault.TheVariants.{Full, NoMemory}
@@ -23,8 +23,8 @@ use Rattle.intern_api.specs.declared.shard_table.ShardTable.{ShardTable}
 use Rattle.intern_api.specs.declared.tables.Tables.{Tables}
 use Rattle.intern_api.specs.Entries.{IsAbsent}
 use Rattle.intern_api.specs.Held.{placed, entry_in, Known, IsHome, head_in, children_of}
-use Rattle.intern_api.specs.KnownLaws.{one_handle, one_key, one_place, exact_entry}
-use Rattle.intern_api.specs.Interning.{Holds, IsInOne, Extends, IsFull, IsFaultFor, Gives, Gathers, Stops, IsPlaced, IsNoRoom, IsUnchanged, HasChildren}
+use Rattle.intern_api.specs.KnownLaws.{one_handle, one_key, exact_entry}
+use Rattle.intern_api.specs.Interning.{Holds, IsInOne, Extends, IsFaultFor, Gives, Gathers, Stops, IsPlaced, IsNoRoom, IsUnchanged}
 use Rattle.intern_api.proofs.EntriesLaws.{get_left}
 
 -- a handle keeps its key

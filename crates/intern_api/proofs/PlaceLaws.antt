@@ -8,7 +8,7 @@ use Rattle.key_model.specs.Stands.{Grows}
 use Rattle.intern_api.specs.declared.fault.InternFault.{InternFault}
 use Rattle.intern_api.specs.declared.fault.InternFault.TheVariants.{Full, NoMemory}
 use Rattle.intern_api.specs.declared.shard_table.ShardTable.{ShardTable}
-use Rattle.intern_api.specs.Entries.{StandsAt, IsAbsent, IsPut, IsFaultAt}
+use Rattle.intern_api.specs.Entries.{IsAbsent, IsPut, IsFaultAt}
 use Rattle.intern_api.specs.Held.{placed, entry_in, IsClosed, children_of}
 use Rattle.intern_api.specs.Interning.{IsPlaced, IsNoRoom, IsUnchanged, HasChildren}
 use Rattle.intern_api.specs.KnownLaws.{exact_handle}

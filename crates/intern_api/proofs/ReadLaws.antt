@@ -1,10 +1,9 @@
 -- How keys are read back.
-use Rattle.std.specs.Prelude.{◌≡◌, ◌<◌, ◌≤◌, ℕ, zero, suc, List, [], ◌∷◌, ◌++◌, Option, Some, Result, Ok, Err, IfOk, length}
+use Rattle.std.specs.Prelude.{◌≡◌, ◌<◌, ◌≤◌, ℕ, zero, suc, List, [], ◌∷◌, ◌++◌, Some, Result, Ok, Err, IfOk, length}
 use Rattle.std.specs.List.{AllZip}
 use Rattle.std.proofs.Common.{sym, ◌∙◌, ap, subst, refl, arith, get_or, take}
 use Rattle.std.proofs.lemmas.Option.{same_Some}
 use Rattle.key_model.specs.declared.entry.Entry.{Entry}
-use Rattle.key_model.specs.declared.entry.Head.{Head}
 use Rattle.key_model.specs.declared.handle.Handle.{Handle}
 use Rattle.key_model.specs.declared.key.Key.{Key}
 use Rattle.key_model.specs.Parts.{head_of, parts_of}

@@ -1,5 +1,5 @@
 -- What an interner makes of a key.
-use Rattle.std.specs.Prelude.{◌≡◌, ◌⊎◌, ℕ, ◌%◌, List, [], ◌∷◌, ◌++◌, Option, Some, None, slice_get, length}
+use Rattle.std.specs.Prelude.{◌≡◌, ◌⊎◌, ℕ, List, [], ◌∷◌, ◌++◌, Option, Some, None, slice_get, length}
 use Rattle.std.specs.List.{AllZip}
 use Rattle.key_model.specs.declared.entry.Entry.{Entry}
 use Rattle.key_model.specs.declared.handle.Handle.{Handle}

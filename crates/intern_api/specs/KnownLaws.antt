@@ -1,13 +1,10 @@
 -- A handle has one key, and a key one handle.
-use Rattle.std.specs.Prelude.{◌≡◌, ◌⊎◌, ℕ, List, [], ◌∷◌, Option, Some, None, slice_get, length}
-use Rattle.std.specs.List.{AllZip}
-use Rattle.std.proofs.Common.{sym, ◌∙◌, ap, subst, refl}
-use Rattle.std.proofs.lemmas.Option.{same_Some, none-some}
+use Rattle.std.specs.Prelude.{◌≡◌, ℕ, List, Option, Some, None, slice_get}
+use Rattle.std.proofs.Common.{sym, ◌∙◌, subst}
+use Rattle.std.proofs.lemmas.Option.{none-some}
 use Rattle.key_model.specs.declared.entry.Entry.{Entry}
-use Rattle.key_model.specs.declared.entry.Head.{Head}
 use Rattle.key_model.specs.declared.handle.Handle.{Handle}
 use Rattle.key_model.specs.declared.key.Key.{Key}
-use Rattle.key_model.specs.Keys.{shard_number}
 use Rattle.key_model.specs.Parts.{head_of, parts_of}
 use Rattle.key_model.specs.BuildLaws.{exact_key}
 use Rattle.key_model.specs.StandsLaws as laws

@@ -1,5 +1,5 @@
 -- How the lists of parts grow, key by key.
-use Rattle.std.proofs.Common.{◌≡◌, ℕ, List, [], ◌∷◌, ◌++◌, ap, refl, take, drop}
+use Rattle.std.proofs.Common.{◌≡◌, List, [], ◌∷◌, ◌++◌, ap, refl}
 use Rattle.std.specs.List.{zip}
 use Rattle.std.proofs.lemmas.Grind.{common_steps}
 use Rattle.tree_model.specs.declared.type_tree.TypeTree.{TypeTree}

@@ -1,4 +1,3 @@
-use Rattle.std.proofs.Common.{◌≡◌}
 use Rattle.intern_api.specs.Empty.{AreEmpty}
 use Rattle.intern_api.proofs.plain_calls.empty_tables.Given as goal
 

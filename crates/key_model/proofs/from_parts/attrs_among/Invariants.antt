@@ -1,4 +1,4 @@
-use Rattle.std.proofs.Common.{◌≡◌, ◌++◌, take, map, length, fold}
+use Rattle.std.proofs.Common.{◌≡◌}
 use Rattle.key_model.specs.Build.{attrs_among}
 use Rattle.key_model.proofs.from_parts.attrs_among.Given as goal
 

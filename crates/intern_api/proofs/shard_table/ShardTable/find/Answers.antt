@@ -1,7 +1,6 @@
-use Rattle.std.proofs.Common.{◌≡◌, sym, ◌∙◌, ap, refl, Some, arith, ◌<◌, length}
-use Rattle.std.proofs.lemmas.Option.{slice_get_within}
+use Rattle.std.proofs.Common.{sym}
 use Rattle.key_model.specs.Equal.{alike_entry, alike_entry-Decides}
-use Rattle.intern_api.proofs.EntriesLaws.{found_same, none_any, stands_found}
+use Rattle.intern_api.proofs.EntriesLaws.{none_any, stands_found}
 use Rattle.intern_api.proofs.shard_table.ShardTable.find.Goals as goal
 
 pub returns-in-Some-clause-found : goal.returns-in-Some-clause-found

@@ -1,4 +1,4 @@
-use Rattle.std.proofs.Common.{sym, subst, map, [], ◌∷◌, ◌%◌, IfOk, IfErr, ap, ◌∙◌, add-one}
+use Rattle.std.proofs.Common.{sym, subst, map, ◌%◌, IfOk, IfErr, ap, ◌∙◌, add-one}
 use Rattle.std.proofs.lemmas.List.{take_all}
 use Rattle.key_model.specs.Parts.{parts_of}
 use Rattle.key_model.specs.declared.key.Key.TheVariants.{OfAttr}

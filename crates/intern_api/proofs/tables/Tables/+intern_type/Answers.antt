@@ -1,4 +1,4 @@
-use Rattle.std.proofs.Common.{sym, subst, map, [], ◌∷◌, ◌%◌, IfOk, IfErr, OnOk, ◌≡◌, ◌∙◌, add-one}
+use Rattle.std.proofs.Common.{sym, subst, map, [], ◌∷◌, ◌%◌, IfOk, IfErr, OnOk, ◌∙◌, add-one}
 use Rattle.key_model.specs.Parts.{parts_of}
 use Rattle.key_model.specs.declared.key.Key.TheVariants.{OfType}
 use Rattle.tree_model.specs.declared.type_tree.TypeTree as type

@@ -1,4 +1,4 @@
-use Rattle.std.proofs.Common.{◌≡◌, take, map}
+use Rattle.std.proofs.Common.{take, map}
 use Rattle.key_model.specs.declared.key.Key.TheVariants.{OfType}
 use Rattle.intern_api.specs.Interning.{Gathers}
 use Rattle.intern_api.proofs.tables.Tables.+intern_type.Given as goal

@@ -1,7 +1,6 @@
-use Rattle.std.proofs.Common.{◌≡◌, sym, ◌∙◌, ap, subst, take, add-one, arith, List}
+use Rattle.std.proofs.Common.{sym, ◌∙◌, ap, subst, take, add-one, arith}
 use Rattle.std.specs.List.{AllZip}
 use Rattle.std.proofs.lemmas.Grind.{common_steps}
-use Rattle.key_model.specs.declared.key.Key.{Key}
 use Rattle.intern_api.specs.Interning.{Holds}
 use Rattle.intern_api.proofs.ReadLaws.{read_built, read_next, read_whole}
 use Rattle.intern_api.proofs.tables.Tables.+read_key.Goals as goal

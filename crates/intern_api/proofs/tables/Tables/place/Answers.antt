@@ -1,8 +1,7 @@
-use Rattle.std.proofs.Common.{◌≡◌, ◌<◌, ◌%◌, sym, ◌∙◌, ap, refl, length, slice_get, Some, set}
+use Rattle.std.proofs.Common.{◌≡◌, ◌%◌, sym, ◌∙◌, slice_get, Some}
 use Rattle.std.proofs.lemmas.Nat.{mod_below}
 use Rattle.std.proofs.lemmas.List.{length-set}
 use Rattle.std.proofs.lemmas.Option.{slice_get_read}
-use Rattle.intern_api.specs.declared.shard_table.ShardTable.{ShardTable}
 use Rattle.intern_api.proofs.PlaceLaws.{each_set, closed_set, placed_set, unchanged_set, room_set}
 use Rattle.intern_api.proofs.tables.Tables.place.Goals as goal
 
