@@ -1,7 +1,5 @@
-//! Tests of what no contract says: keys, their shards, and the interner.
+//! Tests of what no contract says: the texts and shards of keys.
 #![tactic(auto)]
 
-#[cfg(test)]
-mod interning;
 #[cfg(test)]
 mod shards;
