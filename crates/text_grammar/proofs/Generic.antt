@@ -1,23 +1,24 @@
 -- The table is one whose next token decides, so that the machine reads exactly what it describes. The conditions are computed.
-use Rattle.std.proofs.Common.{◌≡◌, ℕ, Bool, true, false, [], ◌∷◌, Some, refl}
+use Rattle.std.proofs.Common.{◌≡◌, Bool, true, false, [], ◌∷◌, Some, refl}
 use Rattle.line_grammar.specs.Conditions.{at_place, implies, decided, made, plain_rests, IsLl}
-use Rattle.line_grammar.specs.Language.{IsLanguage}
 use Rattle.text_grammar.specs.declared.kinds.Kind.{Kind}
 use Rattle.text_grammar.specs.declared.kinds.Kind.TheVariants as kinds
 use Rattle.text_grammar.specs.declared.places.Place.{Place}
 use Rattle.text_grammar.specs.declared.places.Place.TheVariants as places
 use Rattle.text_grammar.specs.declared.parts.Part.{Part}
 use Rattle.text_grammar.specs.declared.parts.Part.TheVariants as parts
-use Rattle.text_grammar.specs.declared.words.Word.{Word}
 use Rattle.text_grammar.specs.Kinds.{number, every}
 use Rattle.text_grammar.specs.Places.{fits_at, kinds_at}
 use Rattle.text_grammar.specs.Table.{generic, lines_of}
-use Rattle.text_grammar.specs.Text.{stands, start, generic_text}
+use Rattle.text_grammar.specs.Text.{start}
 use Rattle.text_grammar.proofs.Follow.{follow}
 
--- the places that may complete a text: those where nothing is refused
+-- the places that may complete a text, whatever stands before: those where nothing is refused, and no alias stands
 abbrev pub plain : Place → Bool
 plain places.DimensionSize = false
+plain places.TypeAlias = false
+plain places.ElementAlias = false
+plain places.AttrAlias = false
 plain places.DottedType = false
 plain places.UnsupportedTypeWord = false
 plain places.UnsupportedInnerWord = false
@@ -62,27 +63,4 @@ generic_ll = record {
   start_plain = refl;
   depth = 9;
   each_made = each_made;
-}
-
-abbrev token : Kind → Word
-token k = record { kind = k; long = false; start = 0; end = 0 }
-
-never : (s : ℕ) (p : Place) (k : Kind) → plain p ≡ true → stands s (p, token k) ≡ false
-never s places.OpName k is = refl
-never s places.DimensionSize k is = absurd cc
-never s places.DottedType k is = absurd cc
-never s places.UnsupportedTypeWord k is = absurd cc
-never s places.UnsupportedInnerWord k is = absurd cc
-never s places.UnsupportedAttrWord k is = absurd cc
-never s places.UnsupportedAliasWord k is = absurd cc
-never s places.RefusedLayout k is = absurd cc
-never s places.RefusedColons k is = absurd cc
-never s _ k is = refl
-
-pub generic_language : IsLanguage generic_text every follow plain
-generic_language = record {
-  ll = generic_ll;
-  token = token;
-  token_is = λ k. refl;
-  never = never;
 }

@@ -1,7 +1,6 @@
 pub mod Follow
 pub mod Generic
 pub mod RunLemmas
-pub mod EventLemmas
 pub mod ReadLemmas
 pub mod LongLemmas
 pub mod WordLemmas

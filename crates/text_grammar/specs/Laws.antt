@@ -1,10 +1,11 @@
 -- What holds of every text.
 use Rattle.std.specs.Prelude.{◌≡◌, List}
-use Rattle.line_grammar.specs.Language.{ReadsText}
+use Rattle.line_grammar.specs.Grammar.{Reads}
+use Rattle.text_grammar.specs.declared.kinds.Kind.{Kind}
 use Rattle.text_grammar.specs.declared.places.Place.{Place}
-use Rattle.text_grammar.specs.declared.words.Word.{Word}
-use Rattle.text_grammar.specs.Text.{generic_text}
+use Rattle.text_grammar.specs.Table.{generic}
+use Rattle.text_grammar.specs.Text.{start}
 
--- a text is read in one way
+-- words have the form of a text in one way
 abbrev pub ReadsOnce : Type 0
-ReadsOnce = (words : List Word) (ps qs : List Place) → ReadsText generic_text ps words → ReadsText generic_text qs words → ps ≡ qs
+ReadsOnce = (kinds : List Kind) (ps qs : List Place) → Reads generic start ps kinds → Reads generic start qs kinds → ps ≡ qs

@@ -3,7 +3,6 @@ pub mod Places
 pub mod Table
 pub mod Text
 pub mod Steps
-pub mod Reading
 pub mod TokenKinds
 pub mod Words
 pub mod Laws

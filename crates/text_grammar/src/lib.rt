@@ -17,10 +17,10 @@ pub use cuts::{Words, cut};
 pub use kinds::Kind;
 pub use parts::{Part, Row, Wanted, lines, may_be_left_out};
 pub use places::{Place, fits};
-pub use reading::{Reading, read};
+pub use reading::{Form, read_form};
 pub use words::Word;
 
-/// A text is read in one way: each of its words stands at one place.
+/// Words have the form of a text in one way: each stands at one place.
 pub fn law_one_reading()
     ensures { ReadsOnce }
 {}
