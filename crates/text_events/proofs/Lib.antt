@@ -1,1 +1,4 @@
 pub mod FirstLemmas
+pub mod NameLemmas
+pub mod LookLemmas
+pub mod LanguageLemmas
