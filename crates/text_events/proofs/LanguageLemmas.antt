@@ -1,6 +1,6 @@
 -- The language of the generic text is one that the machine reads, and what a whole run says of a text.
-use Rattle.std.proofs.Common.{◌≡◌, ℕ, zero, suc, ◌+◌, ◌<◌, ◌≤◌, Bool, true, false, List, [], ◌∷◌, ◌++◌, length, take, drop, map, Option, Some, None, refl, sym, ◌∙◌, ap, arith, subst}
-use Rattle.std.proofs.lemmas.List.{take-append-drop, take_at}
+use Rattle.std.proofs.Common.{◌≡◌, ℕ, zero, suc, ◌+◌, ◌<◌, ◌≤◌, Bool, true, false, List, [], ◌∷◌, ◌++◌, length, take, drop, map, Option, Some, None, refl, sym, ◌∙◌, ap, arith, length-append, length-drop}
+use Rattle.std.proofs.lemmas.List.{take-append-drop, take_at, length-map, map-append}
 use Rattle.std.specs.Prelude.{is_some, IfSome}
 use Rattle.line_grammar.specs.declared.Symbol.{Symbol}
 use Rattle.line_grammar.specs.Grammar.{Grammar}
@@ -133,3 +133,70 @@ taken_at_most : {P N K : Type 0} (g : Grammar P N K) (ss : List (Symbol P N)) (k
 unfolding run
 taken_at_most g ss [] = omega arith
 taken_at_most g ss (k ∷ ks) = taken_step (length ks) (next g ss k) (λ more. run g more ks) (λ more. taken_at_most g more ks)
+
+begun_at : (n : ℕ) (places : List Place) (ts : List Named) → (run generic start (map generic_text.kind ts)).0 ≡ places → EndsText generic_text ts (drop n ts) → n ≤ length ts
+    → BeginsAt (take n places) (take n ts)
+begun_at n places ts taken ends within =
+    (drop n qs, more, rw (same_words, same_places, take-append-drop n qs) reads)
+  where
+    front : List Named
+    front = ends.front
+
+    more : List Named
+    more = ends.begun.0
+
+    qs : List Place
+    qs = ends.begun.1.0
+
+    reads : ReadsText generic_text qs (front ++ more)
+    reads = ends.begun.1.1
+
+    front_len : length front ≡ n
+    front_len = let a = ap length ends.is in let b = length-append front (drop n ts) in let c = length-drop n ts in omega (arith, a, b, c, within)
+
+    same_words : take n ts ≡ front
+    same_words = ap (take n) ends.is ∙ take_at front (drop n ts) n front_len
+
+    run_more : (run generic start (map generic_text.kind front ++ map generic_text.kind more)).0 ≡ qs
+    run_more = rw (map-append generic_text.kind front more) at (gives_only generic_ll qs (map generic_text.kind (front ++ more)) reads.0).0
+
+    run_rest : (run generic start (map generic_text.kind front ++ map generic_text.kind (drop n ts))).0 ≡ places
+    run_rest = rw (← map-append generic_text.kind front (drop n ts), ← ends.is) taken
+
+    kinds_len : length (map generic_text.kind front) ≡ n
+    kinds_len = length-map front generic_text.kind ∙ front_len
+
+    same_places : take n places ≡ take n qs
+    same_places = rw (kinds_len, run_rest, run_more) at
+        (same_front generic start (map generic_text.kind front) (map generic_text.kind (drop n ts)) (map generic_text.kind more))
+
+begun_case : (o : Option ℕ) (places : List Place) (ts : List Named) → (run generic start (map generic_text.kind ts)).0 ≡ places → IsRefused o ts → ((n : ℕ) → o ≡ Some n → n ≤ length ts) → IsBegun o places ts
+begun_case None places ts taken ends within = tt
+begun_case (Some n) places ts taken ends within = begun_at n places ts taken ends (within n refl)
+
+refusal_step : (o : Option EndKind) (more : Option Refusal) (n : ℕ) (r : Refusal) → ((s : Refusal) → more ≡ Some s → s.at < n) → here_or_later o more ≡ Some r → r.at < suc n
+refusal_step (Some k) more n r h is = let zero_at : 0 ≡ r.at = cc in omega (arith, zero_at)
+refusal_step None None n r h is = absurd cc
+refusal_step None (Some s) n r h is = let e : suc s.at ≡ r.at = cc in let b = h s refl in omega (arith, e, b)
+
+refusal_within : (b : Before) (es : List (Event Place Named)) (r : Refusal) → first_refusal b es ≡ Some r → r.at < length es
+refusal_within b [] r is = absurd cc
+refusal_within b (e ∷ es) r is = refusal_step (ends_at b e) (first_refusal (step b e) es) (length es) r (refusal_within (step b e) es) is
+
+events_at_most : (ps : List Place) (ts : List Named) → length (events ps ts) ≤ length ts
+events_at_most [] ts = omega arith
+events_at_most (p ∷ ps) [] = omega arith
+events_at_most (p ∷ ps) (t ∷ ts) = let h = events_at_most ps ts in omega (arith, h)
+
+end_within : (r : Option Refusal) (is_whole : Bool) (count m n : ℕ) → ((s : Refusal) → r ≡ Some s → s.at ≤ m) → count ≤ m → end_of r is_whole count ≡ Some n → n ≤ m
+end_within (Some s) is_whole count m n h within is = let e : s.at ≡ n = cc in let b = h s refl in omega (arith, e, b)
+end_within None true count m n h within is = absurd cc
+end_within None false count m n h within is = let e : count ≡ n = cc in omega (arith, e, within)
+
+pub begun : {places : List Place} {is_whole : Bool} {ts : List Named} (r : Option Refusal) → Ran places is_whole ts → r ≡ first_refusal nothing_before (events places ts)
+    → IsBegun (end_of r is_whole (length places)) places ts
+begun {places = places} {is_whole = is_whole} {ts = ts} r ran is =
+    let at_most : length places ≤ length ts = rw (ran.taken, length-map ts generic_text.kind) at (taken_at_most generic start (map generic_text.kind ts)) in
+    begun_case (end_of r is_whole (length places)) places ts ran.taken (refused r ran is)
+    (λ n e. end_within r is_whole (length places) (length ts) n
+    (λ s some. let a = refusal_within nothing_before (events places ts) s (sym is ∙ some) in let b = events_at_most places ts in omega (arith, a, b)) at_most e)

@@ -1,5 +1,5 @@
 -- Where looking at a text ends, and why.
-use Rattle.std.specs.Prelude.{◌≡◌, ℕ, suc, ◌+◌, ◌&&◌, Bool, true, false, List, [], ◌∷◌, ◌++◌, length, take, drop, get_or, Option, Some, None, ⊤, if◌then◌else◌}
+use Rattle.std.specs.Prelude.{◌≡◌, ℕ, suc, ◌+◌, ◌-◌, ◌&&◌, Bool, true, false, List, [], ◌∷◌, ◌++◌, length, take, drop, slice_get, Option, Some, None, ⊤, if◌then◌else◌}
 use Rattle.mlir_lex.specs.declared.LexFault.{LexFault}
 use Rattle.mlir_lex.specs.declared.LexKind.{LexKind}
 use Rattle.mlir_lex.specs.declared.LexKind.TheVariants as lexical
@@ -58,6 +58,10 @@ IsBegun (Some n) places words = BeginsAt (take n places) (take n words)
 
 -- The kind and the byte at which looking ends
 
+abbrev pub is_number : Kind → Bool
+is_number kinds.Number = true
+is_number _ = false
+
 abbrev pub lexical_kind : LexKind → EndKind
 lexical_kind lexical.BadByte = BadByte
 lexical_kind lexical.OpenString = OpenString
@@ -68,3 +72,46 @@ abbrev pub last_memref : ℕ → ℕ → List Place → ℕ
 last_memref i found [] = found
 last_memref i found (places.MemrefWord ∷ ps) = last_memref (i + 1) i ps
 last_memref i found (p ∷ ps) = last_memref (i + 1) found ps
+
+-- so many bytes behind the start of a word, and where there is none the end of the text
+abbrev pub start_or : ℕ → Option Word → ℕ → ℕ
+start_or end None behind = end
+start_or end (Some w) behind = w.start + behind
+
+-- the word that a refusal at this place names: the memref of a ninth dimension or of a layout, the symbol before `::`, and else the word itself
+abbrev pub blamed : Option Place → List Place → ℕ → ℕ
+blamed (Some places.DimensionSize) before at = last_memref 0 at before
+blamed (Some places.RefusedLayout) before at = last_memref 0 at before
+blamed (Some places.RefusedColons) before at = at - 1
+blamed _ before at = at
+
+-- of a long number behind `#` its first digit is named
+abbrev pub behind_sign : EndKind → Option Place → ℕ
+behind_sign LongNumber (Some places.UseNumber) = 1
+behind_sign _ _ = 0
+
+abbrev pub refusal_ending : ℕ → List Word → List Place → Refusal → Ending
+refusal_ending end words places r = record {
+  place = start_or end (slice_get words (blamed (slice_get places r.at) (take r.at places) r.at)) (behind_sign r.kind (slice_get places r.at));
+  kind = r.kind;
+}
+
+-- at a word that does not fit
+abbrev pub word_ending : Word → Ending
+word_ending w = record { place = w.start; kind = if is_number w.kind && w.long then LongNumber else Expected }
+
+-- behind all words: at a fault of the lexer, or at the end of the text where something is wanting
+abbrev pub last_ending : ℕ → Bool → Option LexFault → Option Ending
+last_ending end whole (Some fault) = Some (record { place = fault.place; kind = lexical_kind fault.kind })
+last_ending end true None = None
+last_ending end false None = Some (record { place = end; kind = Expected })
+
+abbrev pub form_ending : ℕ → Bool → Option LexFault → Option Word → Option Ending
+form_ending end true fault next = last_ending end true fault
+form_ending end false fault None = last_ending end false fault
+form_ending end false fault (Some w) = Some (word_ending w)
+
+-- where looking at a text of so many bytes ends: at a refusal, else at the first word that does not fit, else behind all words; none where nothing ends it
+abbrev pub ending_of : ℕ → List Word → Option LexFault → List Place → Bool → Option Refusal → Option Ending
+ending_of end words fault places whole (Some r) = Some (refusal_ending end words places r)
+ending_of end words fault places whole None = form_ending end whole fault (slice_get words (length places))

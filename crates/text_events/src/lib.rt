@@ -8,7 +8,7 @@ mod look;
 mod naming;
 mod spelling;
 
-pub use ending::{EndKind, Ending};
+pub use ending::{EndKind, Ending, find_ending};
 pub use event::Event;
 pub use look::{Look, Refusal, look_at};
 pub use naming::names;
