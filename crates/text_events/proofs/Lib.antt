@@ -2,3 +2,4 @@ pub mod FirstLemmas
 pub mod NameLemmas
 pub mod LookLemmas
 pub mod LanguageLemmas
+pub mod SourceLemmas

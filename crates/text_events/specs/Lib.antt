@@ -6,3 +6,4 @@ pub mod Aliases
 pub mod KnownAliases
 pub mod Language
 pub mod Looking
+pub mod Source

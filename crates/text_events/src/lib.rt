@@ -4,11 +4,15 @@
 mod alias;
 mod ending;
 mod event;
+mod event_list;
 mod look;
 mod naming;
+mod source;
 mod spelling;
 
 pub use ending::{EndKind, Ending, find_ending};
 pub use event::Event;
+pub use event_list::events;
 pub use look::{Look, Refusal, look_at};
 pub use naming::names;
+pub use source::Source;

@@ -83,7 +83,7 @@ pub fn has_escape(bytes: &[u8]) -> bool
 }
 
 /// The value of a digit, also of a hexadecimal one.
-fn digit_value(b: u8) -> u8
+pub fn digit_value(b: u8) -> u8
     ensures { result ≡ digit_value b }
 {
     if b <= b'9' {
