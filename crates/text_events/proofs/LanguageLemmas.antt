@@ -1,17 +1,16 @@
 -- The language of the generic text is one that the machine reads, and what a whole run says of a text.
-use Rattle.std.proofs.Common.{◌≡◌, ℕ, zero, suc, ◌+◌, ◌<◌, ◌≤◌, Bool, true, false, List, [], ◌∷◌, ◌++◌, length, take, drop, map, Option, Some, None, refl, sym, ◌∙◌, ap, arith, length-append, length-drop}
+use Rattle.std.proofs.Common.{◌≡◌, ℕ, suc, ◌<◌, ◌≤◌, Bool, true, false, List, [], ◌∷◌, ◌++◌, length, take, drop, map, Option, Some, None, refl, sym, ◌∙◌, ap, arith, length-append, length-drop}
 use Rattle.std.proofs.lemmas.List.{take-append-drop, take_at, length-map, map-append}
 use Rattle.std.specs.Prelude.{is_some, IfSome}
 use Rattle.line_grammar.specs.declared.Symbol.{Symbol}
 use Rattle.line_grammar.specs.Grammar.{Grammar}
 use Rattle.line_grammar.specs.Machine.{next, going, run, whole}
-use Rattle.line_grammar.specs.Language.{Event, Language, events, first_at, one_later as plain_later, or_end, ReadsText, BeginsText, EndsText, IsLanguage}
+use Rattle.line_grammar.specs.Language.{Event, events, first_at, one_later as plain_later, or_end, ReadsText, EndsText, IsLanguage}
 use Rattle.line_grammar.proofs.Texts.{text_none, text_ends, text_only}
 use Rattle.line_grammar.proofs.Theorems.{gives_only}
 use Rattle.text_grammar.specs.declared.kinds.Kind.{Kind}
 use Rattle.text_grammar.specs.declared.places.Place.{Place}
 use Rattle.text_grammar.specs.declared.places.Place.TheVariants as places
-use Rattle.text_grammar.specs.declared.parts.Part.{Part}
 use Rattle.text_grammar.specs.declared.words.Word.{Word}
 use Rattle.text_grammar.specs.Kinds.{every}
 use Rattle.text_grammar.specs.Steps.{Looked, kind_of}
@@ -22,7 +21,7 @@ use Rattle.text_grammar.proofs.Generic.{plain, generic_ll}
 use Rattle.text_events.specs.declared.ending.EndKind.{EndKind}
 use Rattle.text_events.specs.declared.look.Refusal.{Refusal}
 use Rattle.text_events.specs.Language.{Named, Before, named, step, stands, ends_at, nothing_before, generic_text}
-use Rattle.text_events.specs.Looking.{first_refusal, refused_word, end_of, IsFound, IsRefused, IsBegun, BeginsAt, here_or_later, one_later}
+use Rattle.text_events.specs.Looking.{first_refusal, refused_word, end_of, IsFound, IsRefused, IsBegun, BeginsAt, here_or_later}
 
 -- The language
 

@@ -3,3 +3,4 @@ pub mod NameLemmas
 pub mod LookLemmas
 pub mod LanguageLemmas
 pub mod SourceLemmas
+pub mod Examples

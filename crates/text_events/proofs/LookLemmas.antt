@@ -1,5 +1,5 @@
 -- The first event at which looking ends, step by step.
-use Rattle.std.proofs.Common.{◌≡◌, ℕ, suc, ◌+◌, ◌<◌, ◌≤◌, List, [], ◌∷◌, length, drop, get_or, Option, Some, None, refl, sym, ◌∙◌, ap, arith, zero-add}
+use Rattle.std.proofs.Common.{◌≡◌, ℕ, suc, ◌+◌, ◌<◌, ◌≤◌, List, [], ◌∷◌, length, drop, get_or, Option, Some, None, refl, arith, zero-add}
 use Rattle.std.proofs.lemmas.List.{drop_all, drop_more}
 use Rattle.line_grammar.specs.Language.{Event, events}
 use Rattle.text_grammar.specs.declared.places.Place.{Place}

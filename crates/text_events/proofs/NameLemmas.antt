@@ -1,12 +1,12 @@
 -- Words without escapes, and the place of the first word that spells the same.
-use Rattle.std.proofs.Common.{◌≡◌, ℕ, ◌+◌, ◌<◌, ◌==◌, Bool, true, false, not, ◌&&◌, ◌||◌, List, [], ◌∷◌, ◌++◌, length, take, drop, get_or, Option, None, Some, suc, cond, refl, sym, ◌∙◌, ap, arith, add-zero, zero-add, add-one, append_assoc, if◌then◌else◌}
-use Rattle.std.specs.Prelude.{is_some, position}
+use Rattle.std.proofs.Common.{◌≡◌, ℕ, ◌+◌, ◌<◌, ◌==◌, Bool, true, false, not, ◌&&◌, ◌||◌, List, [], ◌∷◌, ◌++◌, length, take, drop, get_or, Option, None, Some, suc, cond, refl, sym, ◌∙◌, ap, arith, add-zero, zero-add, append_assoc, if◌then◌else◌}
+use Rattle.std.specs.Prelude.{position}
 use Rattle.std.specs.Option.{unwrap_or}
-use Rattle.std.specs.List.{position_from, list_any}
+use Rattle.std.specs.List.{position_from}
 use Rattle.std.specs.Str.{bytes_eq}
 use Rattle.std.proofs.lemmas.Slice.Eq.{bytes_eq-Decides}
 use Rattle.std.proofs.lemmas.Iterator.Adapters.{position_from-zero}
-use Rattle.std.proofs.lemmas.List.{take-append-drop, take_more, drop_more, length-take-le}
+use Rattle.std.proofs.lemmas.List.{take-append-drop, drop_more, length-take-le}
 use Rattle.text_grammar.specs.declared.kinds.Kind.TheVariants as kinds
 use Rattle.text_grammar.specs.declared.words.Word.{Word}
 use Rattle.text_events.specs.Spelling.{unescaped, spelled, core, piece}

@@ -7,3 +7,4 @@ pub mod KnownAliases
 pub mod Language
 pub mod Looking
 pub mod Source
+pub mod Laws

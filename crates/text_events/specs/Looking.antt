@@ -1,9 +1,9 @@
 -- Where looking at a text ends, and why.
-use Rattle.std.specs.Prelude.{◌≡◌, ℕ, suc, ◌+◌, ◌-◌, ◌&&◌, Bool, true, false, List, [], ◌∷◌, ◌++◌, length, take, drop, slice_get, Option, Some, None, ⊤, if◌then◌else◌}
+use Rattle.std.specs.Prelude.{ℕ, suc, ◌+◌, ◌-◌, ◌&&◌, Bool, true, false, List, [], ◌∷◌, ◌++◌, length, take, drop, slice_get, Option, Some, None, ⊤, if◌then◌else◌}
 use Rattle.mlir_lex.specs.declared.LexFault.{LexFault}
 use Rattle.mlir_lex.specs.declared.LexKind.{LexKind}
 use Rattle.mlir_lex.specs.declared.LexKind.TheVariants as lexical
-use Rattle.line_grammar.specs.Language.{Event, events, or_end, ReadsText, EndsText}
+use Rattle.line_grammar.specs.Language.{Event, or_end, ReadsText, EndsText}
 use Rattle.text_grammar.specs.declared.kinds.Kind.{Kind}
 use Rattle.text_grammar.specs.declared.kinds.Kind.TheVariants as kinds
 use Rattle.text_grammar.specs.declared.places.Place.{Place}

@@ -1,8 +1,6 @@
 -- What names spell, by their numbers, and the events of a text.
-use Rattle.std.specs.Prelude.{ℕ, ◌+◌, ◌-◌, ◌^◌, ◌%◌, ◌==◌, ◌&&◌, ◌||◌, Bool, false, List, [], ◌∷◌, drop, slice_get, codes, nat_le, Option, Some, None, if◌then◌else◌}
+use Rattle.std.specs.Prelude.{ℕ, ◌-◌, ◌^◌, ◌%◌, ◌==◌, ◌&&◌, ◌||◌, Bool, false, List, [], ◌∷◌, drop, slice_get, codes, nat_le, Option, Some, None, if◌then◌else◌}
 use Rattle.std.specs.Str.{bytes_eq}
-use Rattle.text_grammar.specs.declared.kinds.Kind.{Kind}
-use Rattle.text_grammar.specs.declared.kinds.Kind.TheVariants.{Number, HashNumber}
 use Rattle.text_grammar.specs.declared.words.Word.{Word}
 use Rattle.text_grammar.specs.TokenKinds.{value_from}
 use Rattle.text_events.specs.declared.event.Event.{Event}

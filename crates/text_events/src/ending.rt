@@ -8,7 +8,7 @@ use mlir_lex::{LexFault, LexKind};
 use text_grammar::{Kind, Place, Word};
 
 /// Why looking ends.
-#[derive(Clone, Copy, Drop)]
+#[derive(Clone, Copy, PartialEq, Eq, Debug)]
 pub enum EndKind {
     /// No token begins with the byte.
     BadByte,

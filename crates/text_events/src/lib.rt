@@ -1,6 +1,8 @@
 //! Events: the words of a text at their places in the grammar, each with a number for what it spells.
 #![tactic(auto)]
 
+ghost use Rattle.text_events.specs.Laws.{ReadsOnce};
+
 mod alias;
 mod ending;
 mod event;
@@ -16,3 +18,11 @@ pub use event_list::events;
 pub use look::{Look, Refusal, look_at};
 pub use naming::names;
 pub use source::Source;
+
+/// A text is read in one way: each of its words stands at one place.
+pub fn law_one_reading()
+    ensures { ReadsOnce }
+{}
+
+#[cfg(test)]
+mod tests;

@@ -4,3 +4,4 @@ pub mod RunLemmas
 pub mod ReadLemmas
 pub mod LongLemmas
 pub mod WordLemmas
+pub mod OnceLemmas

@@ -1,7 +1,7 @@
 //! The grammar of MLIR's generic text, and the machine that reads it: each token gets its place in the grammar, and a fault of form its own.
 #![tactic(auto)]
 
-ghost use Rattle.text_grammar.specs.Laws.{ReadsOnce};
+ghost use Rattle.text_grammar.specs.Laws.{CutOnce, ReadsOnce};
 
 mod cuts;
 mod kinds;
@@ -23,6 +23,11 @@ pub use words::Word;
 /// Words have the form of a text in one way: each stands at one place.
 pub fn law_one_reading()
     ensures { ReadsOnce }
+{}
+
+/// A text is cut into words in one way.
+pub fn law_cut_once()
+    ensures { CutOnce }
 {}
 
 #[cfg(test)]

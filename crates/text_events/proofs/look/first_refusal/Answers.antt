@@ -1,4 +1,4 @@
-use Rattle.std.proofs.Common.{rules, sym, ◌∙◌, arith}
+use Rattle.std.proofs.Common.{rules, sym, ◌∙◌}
 use Rattle.text_events.proofs.LookLemmas.{no_words, no_names, ends_here, goes_on}
 use Rattle.text_events.proofs.look.first_refusal.Goals as goal
 

@@ -1,4 +1,4 @@
-use Rattle.std.proofs.Common.{rules, ◌+◌, drop, take, sym, refl}
+use Rattle.std.proofs.Common.{rules, ◌+◌, drop, take, refl}
 use Rattle.std.proofs.lemmas.List.{drop_more, take_more}
 use Rattle.text_events.proofs.NameLemmas.{named_more, named_one, front_len, nothing}
 use Rattle.text_events.proofs.naming.names_by.Goals as goal

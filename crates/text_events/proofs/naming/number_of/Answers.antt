@@ -1,6 +1,4 @@
-use Rattle.std.proofs.Common.{rules, ◌≡◌, sym, ◌∙◌, ap, length}
-use Rattle.std.specs.Prelude.{position, Some}
-use Rattle.text_events.specs.Names.{spells}
+use Rattle.std.proofs.Common.{rules, ◌≡◌, sym, ◌∙◌, length}
 use Rattle.text_events.proofs.NameLemmas.{found_name, new_name, found_stands, new_stands}
 use Rattle.text_events.proofs.naming.number_of.Goals as goal
 

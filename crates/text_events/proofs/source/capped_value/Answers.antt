@@ -1,4 +1,4 @@
-use Rattle.std.proofs.Common.{arith, ◌^◌, ◌-◌}
+use Rattle.std.proofs.Common.{arith, ◌^◌}
 use Rattle.text_grammar.proofs.LongLemmas.{over}
 use Rattle.text_events.proofs.SourceLemmas.{cap_is}
 use Rattle.text_events.proofs.source.capped_value.Goals as goal

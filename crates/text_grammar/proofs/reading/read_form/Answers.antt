@@ -1,5 +1,3 @@
-use Rattle.text_grammar.proofs.Generic.{generic_ll}
-use Rattle.text_grammar.specs.Table.{generic}
 use Rattle.text_grammar.proofs.ReadLemmas.{form_found, form_refused, form_only}
 use Rattle.text_grammar.proofs.reading.read_form.Goals as goal
 
