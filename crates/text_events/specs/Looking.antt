@@ -78,12 +78,19 @@ abbrev pub start_or : ℕ → Option Word → ℕ → ℕ
 start_or end None behind = end
 start_or end (Some w) behind = w.start + behind
 
--- the word that a refusal at this place names: the memref of a ninth dimension or of a layout, the symbol before `::`, and else the word itself
-abbrev pub blamed : Option Place → List Place → ℕ → ℕ
-blamed (Some places.DimensionSize) before at = last_memref 0 at before
-blamed (Some places.RefusedLayout) before at = last_memref 0 at before
-blamed (Some places.RefusedColons) before at = at - 1
-blamed _ before at = at
+abbrev pub is_long : EndKind → Bool
+is_long LongNumber = true
+is_long _ = false
+
+-- the word that a refusal at this place names: the memref of a ninth dimension or of a layout, the symbol before `::`, and else the word itself, so also where it is a long number
+abbrev pub blamed_place : Option Place → List Place → ℕ → ℕ
+blamed_place (Some places.DimensionSize) before at = last_memref 0 at before
+blamed_place (Some places.RefusedLayout) before at = last_memref 0 at before
+blamed_place (Some places.RefusedColons) before at = at - 1
+blamed_place _ before at = at
+
+abbrev pub blamed : EndKind → Option Place → List Place → ℕ → ℕ
+blamed kind place before at = if is_long kind then at else blamed_place place before at
 
 -- of a long number behind `#` its first digit is named
 abbrev pub behind_sign : EndKind → Option Place → ℕ
@@ -92,7 +99,7 @@ behind_sign _ _ = 0
 
 abbrev pub refusal_ending : ℕ → List Word → List Place → Refusal → Ending
 refusal_ending end words places r = record {
-  place = start_or end (slice_get words (blamed (slice_get places r.at) (take r.at places) r.at)) (behind_sign r.kind (slice_get places r.at));
+  place = start_or end (slice_get words (blamed r.kind (slice_get places r.at) (take r.at places) r.at)) (behind_sign r.kind (slice_get places r.at));
   kind = r.kind;
 }
 

@@ -1,7 +1,7 @@
 //! Where looking at a text ends.
 
 ghost use Rattle.std.specs.Prelude.{◌≡◌, ◌+◌, ◌&&◌, ◌∷◌, [], length, slice_get, take};
-ghost use Rattle.text_events.specs.Looking.{behind_sign, blamed, ending_of, form_ending, is_number, last_ending, last_memref, lexical_kind, refusal_ending, start_or, word_ending};
+ghost use Rattle.text_events.specs.Looking.{behind_sign, blamed, ending_of, form_ending, is_long, is_number, last_ending, last_memref, lexical_kind, refusal_ending, start_or, word_ending};
 
 use crate::look::{Look, Refusal};
 use mlir_lex::{LexFault, LexKind};
@@ -126,7 +126,7 @@ fn refusal_ending(end: usize, words: &[Word], places: &[Place], refusal: Refusal
     ensures { result ≡ refusal_ending end words.now places.now refusal }
 {
     let place = place_at(places, refusal.at);
-    let word = word_at(words, blamed(place, places, refusal.at));
+    let word = word_at(words, blamed(refusal.kind, place, places, refusal.at));
     Ending {
         place: start_or(end, word, behind_sign(refusal.kind, place)),
         kind: refusal.kind,
@@ -163,14 +163,23 @@ fn behind_sign(kind: EndKind, place: Option<Place>) -> u8
     }
 }
 
-fn blamed(place: Option<Place>, places: &[Place], at: usize) -> usize
-    ensures { result ≡ blamed place (take at places.now) at }
+fn blamed(kind: EndKind, place: Option<Place>, places: &[Place], at: usize) -> usize
+    ensures { result ≡ blamed kind place (take at places.now) at }
 {
+    if is_long(kind) {
+        return at;
+    }
     match place {
         Some(Place::DimensionSize | Place::RefusedLayout) => last_memref(places, at),
         Some(Place::RefusedColons) => at.saturating_sub(1),
         _ => at,
     }
+}
+
+fn is_long(kind: EndKind) -> bool
+    ensures { result ≡ is_long kind }
+{
+    matches!(kind, EndKind::LongNumber)
 }
 
 /// The last word before this one that is a memref's.

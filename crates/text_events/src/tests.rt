@@ -78,6 +78,13 @@ fn long_numbers(rt: HostRuntime) -> Result<(), Fail> {
         9,
         EndKind::LongNumber,
     )?;
+    ends(
+        &rt,
+        rt.alloc(),
+        b"!a = memref<0x340282366920938463463374607431768211456xi32>",
+        14,
+        EndKind::LongNumber,
+    )?;
     is_text(
         &rt,
         rt.alloc(),
