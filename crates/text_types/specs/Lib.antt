@@ -4,4 +4,5 @@ pub mod Actions
 pub mod Items
 pub mod Aliases
 pub mod Plain
+pub mod Stack
 pub mod Examples

@@ -3,9 +3,16 @@
 
 mod action;
 mod action_rows;
+mod alias_calls;
+mod alias_numbers;
+mod begun;
 mod marks;
 mod spelled;
+mod stack;
 
 pub use action::{Action, Actions};
 pub use action_rows::actions_of;
+pub use alias_numbers::AliasNumbers;
+pub use begun::begun_at;
+pub use marks::mark;
 pub use spelled::Spelled;
