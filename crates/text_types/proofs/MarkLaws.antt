@@ -33,8 +33,8 @@ module _ (old now : List Event) (n i : ℕ) (d : Event) (step : i + 1 ≡ n) (bo
       let whole : now ≡ take i old ++ y ∷ marked (drop n old) = is ∙ ap (λ p. p ++ marked (drop n old)) more ∙ append_assoc (take i old) (y ∷ []) (marked (drop n old)) in
       let name : (get_or now i d).name ≡ y.name = ap (λ (x : Event). x.name) same_event in
       let new_place : place ≡ marked_at y.place (arrow_next (drop n old)) (first_or_false (closed (drop n old))) =
-        e ∙ ap (λ (x : Event). marked_at x.place arrow inner) same_event ∙ ap (λ a. marked_at y.place a inner) f
-        ∙ ap (λ b. marked_at y.place (arrow_next (drop n old)) b) (g ∙ ap first_or_false h) in
+      e ∙ ap (λ (x : Event). marked_at x.place arrow inner) same_event ∙ ap (λ a. marked_at y.place a inner) f
+      ∙ ap (λ b. marked_at y.place (arrow_next (drop n old)) b) (g ∙ ap first_or_false h) in
       ap (λ es. set es i (event place (get_or now i d).name)) whole ∙ set_at (take i old) y (marked (drop n old)) _ i (length-take-le i old (omega (arith, step)))
       ∙ ap (λ m. take i old ++ event place m ∷ marked (drop n old)) name ∙ ap (λ p. take i old ++ event p y.name ∷ marked (drop n old)) new_place
       ∙ ap (λ es. take i old ++ marked es) (sym rest)

@@ -24,16 +24,20 @@ piece (e ∷ events) = if is_start e.place then [] else e ∷ piece events
 abbrev pub bound : ℕ → Term → Aliases → Aliases
 bound name term aliases other = if other == name then term else aliases other
 
--- what the aliases stand for behind an event
-abbrev pub after : Spelling → Aliases → Place → ℕ → List Event → Aliases
-after words aliases places.TypeAliasName name events = bound name (begins words aliases (piece events)) aliases
-after words aliases places.AttrAliasName name events = bound name (begins words aliases (piece events)) aliases
-after words aliases _ name events = aliases
+-- whether the definition of an alias begins at the place
+abbrev pub defines : Place → Bool
+defines places.TypeAliasName = true
+defines places.AttrAliasName = true
+defines _ = false
+
+-- what the aliases stand for behind an event, where these follow
+abbrev pub after : Spelling → Aliases → Event → List Event → Aliases
+after words aliases e events = if defines e.place then bound e.name (begins words aliases (piece events)) aliases else aliases
 
 -- what they stand for behind all of the events, in order of the text
 abbrev pub aliases_from : Spelling → Aliases → List Event → Aliases
 aliases_from words aliases [] = aliases
-aliases_from words aliases (e ∷ events) = aliases_from words (after words aliases e.place e.name events) events
+aliases_from words aliases (e ∷ events) = aliases_from words (after words aliases e events) events
 
 abbrev pub aliases_of : Spelling → List Event → Aliases
 aliases_of words events = aliases_from words (λ _. nothing) events

@@ -30,3 +30,8 @@ AliasesWithin last aliases = (name : ℕ) → number_of aliases name ≤ last
 -- the term of each alias
 abbrev pub alias_terms : List Node → AliasNumbers → ℕ → Term
 alias_terms nodes aliases name = term_at nodes (number_of aliases name)
+
+-- the first number, 0 for none
+abbrev pub first_number : List ℕ → ℕ
+first_number [] = 0
+first_number (number ∷ numbers) = number

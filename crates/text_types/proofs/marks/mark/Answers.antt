@@ -15,8 +15,8 @@ each-preserved c =
     record {
       bound = omega arith;
       events = marked_step c.args.events.now c.each.events c.each.index (c.each.index - 1) nothing (omega arith) inv.bound inv.events c.marked_at.result c.each.arrow c.innermost-inner.result
-        (reverse c.each.closed.items) c.marked_at.ensures inv.arrow (c.innermost-inner.ensures ∙ ap (λ xs. first_or_false (reverse xs)) c.deref.ensures.value) inv.closed;
+          (reverse c.each.closed.items) c.marked_at.ensures inv.arrow (c.innermost-inner.ensures ∙ ap (λ xs. first_or_false (reverse xs)) c.deref.ensures.value) inv.closed;
       closed = closed_step c.args.events.now c.each.events c.each.index (c.each.index - 1) nothing (omega arith) inv.bound inv.events (reverse c.close.new.closed.items) (reverse c.each.closed.items)
-        c.each.arrow c.in_ok-close.ensures inv.closed inv.arrow;
+          c.each.arrow c.in_ok-close.ensures inv.closed inv.arrow;
       arrow = arrow_step c.args.events.now c.each.events c.each.index (c.each.index - 1) nothing (omega arith) inv.bound inv.events c.is_arrow-arrow.result c.is_arrow-arrow.ensures;
     }
