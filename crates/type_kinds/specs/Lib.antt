@@ -1,0 +1,5 @@
+pub mod First
+pub mod Begins
+pub mod Sizes
+pub mod Parts
+pub mod Depths

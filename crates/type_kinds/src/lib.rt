@@ -1,0 +1,12 @@
+//! The kinds of refusals of the generic text that look at types and attributes: each the first event at which it stands.
+#![tactic(auto)]
+
+mod attr_depth;
+mod begins;
+mod parts;
+mod tally;
+mod tally_calls;
+mod type_depth;
+
+pub use begins::Begin;
+pub use parts::{MOST_PARTS, first_part_too_many};
