@@ -1,6 +1,7 @@
 -- The first event at which a test stands that sees the events behind it: the three answers of a loop.
-use Rattle.std.proofs.Common.{◌≡◌, ℕ, zero, suc, sym, ◌+◌, ◌<◌, ◌≤◌, Bool, true, false, List, [], ◌∷◌, length, drop, get_or, Option, Some, None, refl, arith, ap}
+use Rattle.std.proofs.Common.{◌≡◌, ℕ, zero, suc, sym, ◌∙◌, nat_lt, ◌+◌, ◌<◌, ◌≤◌, Bool, true, false, List, [], ◌∷◌, length, drop, get_or, Option, Some, None, refl, arith, ap}
 use Rattle.std.specs.Prelude.{slice_get}
+use Rattle.std.proofs.lemmas.Bool.Decides.{nat_tests}
 use Rattle.std.proofs.lemmas.Option.{same_Some, none-some}
 use Rattle.std.proofs.lemmas.List.{drop_all, drop_more}
 use Rattle.line_grammar.specs.Language.{one_later}
@@ -54,3 +55,16 @@ next_none [] zero h = refl
 next_none [] (suc k) h = refl
 next_none (x ∷ es) zero h = absurd cc
 next_none (x ∷ es) (suc k) h = next_none es k h
+
+-- an event more at which it does not stand
+pub next_turn : {S : Type 0} (step : S → Event → List Event → S) (stands : S → Event → List Event → Bool) (s t : S) (es : List Event) (i : ℕ) (e : Event) (whole : Option ℕ) → i < length es
+    → ahead i (first_in step stands s (drop i es)) ≡ whole → stands s (get_or es i e) (drop (i + 1) es) ≡ false → t ≡ step s (get_or es i e) (drop (i + 1) es)
+    → ahead (i + 1) (first_in step stands t (drop (i + 1) es)) ≡ whole
+next_turn step stands s t es i e whole within so_far is moves =
+    ap (λ x. ahead (i + 1) (first_in step stands x (drop (i + 1) es))) moves ∙ sym (goes_on step stands s es i e within is) ∙ so_far
+
+pub not_below : (m n : ℕ) → n ≤ m → nat_lt m n ≡ false
+not_below m n h = grind (arith, nat_tests)
+
+pub is_below : (m n : ℕ) → m < n → nat_lt m n ≡ true
+is_below m n h = grind (arith, nat_tests)

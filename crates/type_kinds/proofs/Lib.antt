@@ -1,2 +1,2 @@
 pub mod FirstIn
-pub mod TallyLaws
+pub mod PartLaws

@@ -8,5 +8,7 @@ mod tally;
 mod tally_calls;
 mod type_depth;
 
+pub use attr_depth::first_attr_too_deep;
 pub use begins::Begin;
 pub use parts::{MOST_PARTS, first_part_too_many};
+pub use type_depth::{MOST_DEPTH, first_type_too_deep};
