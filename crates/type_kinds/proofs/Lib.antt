@@ -1,2 +1,3 @@
 pub mod FirstIn
 pub mod PartLaws
+pub mod DepthLaws

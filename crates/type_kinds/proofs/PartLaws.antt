@@ -23,4 +23,4 @@ pub count_found : (sizes : Sizes) (total parts : ℕ) (es : List Event) (i : ℕ
     → Some i ≡ whole
 count_found sizes total parts es i e whole within so_far is many =
     sym (found count too_many (state sizes total) es i e within
-      (ap (λ n. nat_lt most_parts (total + n)) (sym is) ∙ is_below most_parts (total + parts) (omega arith))) ∙ so_far
+    (ap (λ n. nat_lt most_parts (total + n)) (sym is) ∙ is_below most_parts (total + parts) (omega arith))) ∙ so_far

@@ -17,10 +17,10 @@ each-preserved c =
     let e : Event = get_or c.args.events.now c.each.index nothing in
     record {
       decides = count_step (sizes_of c.each.tally) (sizes_of c.pass.new.self) c.each.total c.parts_of-parts.result c.args.events.now c.each.index nothing (first_part c.args.events.now)
-        c.each-test.true c.each.invariant.decides
-        (c.parts_of-parts.ensures ∙ ap (λ b. parts_of b c.size.result) (c.begin_at-begin.ensures ∙ ap (begin_at e.place c.each.tally.minus) c.next_place.ensures)
+          c.each-test.true c.each.invariant.decides
+          (c.parts_of-parts.ensures ∙ ap (λ b. parts_of b c.size.result) (c.begin_at-begin.ensures ∙ ap (begin_at e.place c.each.tally.minus) c.next_place.ensures)
           ∙ ap (parts_of (begin_at e.place c.each.tally.minus (place_next (drop (c.each.index + 1) c.args.events.now)))) c.size.ensures)
-        c.if-total-parts.false c.each.invariant.total c.in_ok-pass.ensures.moved;
+          c.if-total-parts.false c.each.invariant.total c.in_ok-pass.ensures.moved;
       amount = let a = c.in_ok-pass.ensures.amount in let b = c.each.invariant.amount in omega arith;
       total = let a = c.each.invariant.total in let b = c.if-total-parts.false in omega arith;
     }
