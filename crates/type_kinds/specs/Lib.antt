@@ -3,3 +3,4 @@ pub mod Begins
 pub mod Sizes
 pub mod Parts
 pub mod Depths
+pub mod Ranges

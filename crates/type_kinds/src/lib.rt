@@ -4,6 +4,7 @@
 mod attr_depth;
 mod begins;
 mod parts;
+mod ranges;
 mod tally;
 mod tally_calls;
 mod type_depth;
