@@ -1,3 +1,4 @@
 pub mod FirstIn
 pub mod PartLaws
 pub mod DepthLaws
+pub mod RangeLaws

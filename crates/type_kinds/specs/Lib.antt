@@ -4,3 +4,4 @@ pub mod Sizes
 pub mod Parts
 pub mod Depths
 pub mod Ranges
+pub mod Counts

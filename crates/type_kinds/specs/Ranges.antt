@@ -1,5 +1,5 @@
 -- Numbers out of their ranges.
-use Rattle.std.specs.Prelude.{ℕ, ◌-◌, ◌^◌, ◌||◌, Bool, true, false, List, [], ◌∷◌, Option, Some, None, nat_lt, nat_le, nat_eq, min, if◌then◌else◌}
+use Rattle.std.specs.Prelude.{ℕ, ◌-◌, ◌^◌, ◌&&◌, Bool, not, true, false, List, [], ◌∷◌, Option, Some, None, nat_lt, nat_le, min, if◌then◌else◌}
 use Rattle.text_grammar.specs.declared.places.Place.{Place}
 use Rattle.text_grammar.specs.declared.places.Place.TheVariants as places
 use Rattle.text_events.specs.declared.event.Event.{Event}
@@ -61,6 +61,10 @@ abbrev pub is_long_size : Option ℕ → Bool
 is_long_size None = false
 is_long_size (Some size) = nat_le 9223372036854775808 size
 
+-- a count of results is 1 to 4096
+abbrev pub is_count : ℕ → Bool
+is_count number = nat_le 1 number && nat_le number 4096
+
 -- the width of the numbers of the array, and whether the event before is a minus
 pub record Listed : Type 0 where
   pub width : ℕ
@@ -72,7 +76,7 @@ out_at words s places.IntegerNumber name width = unfits_some width s.minus (word
 out_at words s places.ListedNumber name width = unfits s.minus s.width (words.number name)
 out_at words s places.DimensionSize name width = is_long_size (words.size name)
 out_at words s places.ArrayNumber name width = nat_le 4294967296 (words.number name)
-out_at words s places.ResultNumber name width = nat_eq (words.number name) 0 || nat_lt 4096 (words.number name)
+out_at words s places.ResultNumber name width = not (is_count (words.number name))
 out_at words s _ name width = false
 
 abbrev pub is_out : Spelling → Aliases → Listed → Event → List Event → Bool

@@ -3,13 +3,16 @@
 
 mod attr_depth;
 mod begins;
+mod counts;
 mod parts;
 mod ranges;
 mod tally;
 mod tally_calls;
+mod type_count;
 mod type_depth;
 
 pub use attr_depth::first_attr_too_deep;
 pub use begins::Begin;
 pub use parts::{MOST_PARTS, first_part_too_many};
+pub use ranges::first_out_of_range;
 pub use type_depth::{MOST_DEPTH, first_type_too_deep};

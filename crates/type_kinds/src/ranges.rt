@@ -3,7 +3,7 @@
 ghost use Rattle.std.specs.Prelude.{◌≡◌, ◌+◌, ◌<◌, ◌≤◌, ◌^◌, ℕ, IfOk, Some, drop, length};
 ghost use Rattle.term_table.specs.Terms.{term_at};
 ghost use Rattle.text_types.specs.Stack.{AliasesWithin, alias_terms, number_of};
-ghost use Rattle.type_kinds.specs.Ranges.{first_out, form_width, is_colon, is_long_size, is_minus, listed_at, narrow, next_width, number_width, out_at, term_width, unfits, unfits_some, width_at, written_width, Listed};
+ghost use Rattle.type_kinds.specs.Ranges.{first_out, form_width, is_colon, is_count, is_long_size, is_minus, listed_at, narrow, next_width, number_width, out_at, term_width, unfits, unfits_some, width_at, written_width};
 
 use term_table::{Form, Terms};
 use text_events::Event;
@@ -153,4 +153,61 @@ fn number_width<S: Spelled>(
         }
         [] => Some(64),
     }
+}
+
+fn is_count(number: u128) -> bool
+    ensures { result ≡ is_count number }
+{
+    1 <= number && number <= 4096
+}
+
+/// Whether the number of the event is out of its range, where the width of its type, of the array and a minus before it are these.
+fn is_out<S: Spelled>(words: &S, event: Event, typed: Option<u32>, width: u32, minus: bool) -> bool
+    requires typed { (w : ℕ) → typed ≡ Some w → w ≤ 64 }
+    requires width { width ≤ 64 }
+    ensures { result ≡ out_at (S.spelling words.now) (record { width = width; minus = minus }) event.place event.name typed }
+{
+    match event.place {
+        Place::IntegerNumber => unfits_some(typed, minus, words.number(event.name)),
+        Place::ListedNumber => unfits(minus, width, words.number(event.name)),
+        Place::DimensionSize => is_long_size(words.size(event.name)),
+        Place::ArrayNumber => words.number(event.name) >= 4294967296,
+        Place::ResultNumber => !is_count(words.number(event.name)),
+        _ => false,
+    }
+}
+
+/// The width of the numbers of an array behind an event.
+fn listed_width<S: Spelled>(words: &S, event: Event, width: u32) -> u32
+    requires { width ≤ 64 }
+    ensures is { result ≡ listed_at (S.spelling words.now) event.place event.name width }
+    ensures narrow { result ≤ 64 }
+{
+    match event.place {
+        Place::NumbersWidth => written_width(words.width(event.name)),
+        _ => width,
+    }
+}
+
+/// The first number out of its range.
+pub fn first_out_of_range<S: Spelled>(
+    words: &S,
+    aliases: &AliasNumbers,
+    terms: &Terms,
+    events: &[Event],
+) -> Option<usize>
+    requires { AliasesWithin (length terms.now.nodes.keys) aliases.now }
+    ensures { result ≡ first_out (S.spelling words.now) (alias_terms terms.now.nodes.keys aliases.now) events.now }
+{
+    let mut width = 64;
+    let mut minus = false;
+    'each: for (index, event) in events.iter().enumerate() {
+        let typed = number_width(words, aliases, terms, &events[index + 1..]);
+        if is_out(words, *event, typed, width, minus) {
+            return Some(index);
+        }
+        width = listed_width(words, *event, width);
+        minus = is_minus(event.place);
+    }
+    None
 }
