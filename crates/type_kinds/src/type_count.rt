@@ -1,9 +1,9 @@
 //! Function types with other numbers of types than the operation has operands and named results.
 
-ghost use Rattle.std.specs.Prelude.{◌≡◌, ◌≤◌, IfOk, OnOk, length, reverse};
+ghost use Rattle.std.specs.Prelude.{◌≡◌, ◌≤◌, ◌&&◌, IfOk, OnOk, length, reverse, slice_index_or};
 ghost use Rattle.term_table.specs.Terms.{term_at};
-ghost use Rattle.text_types.specs.Items.{begun};
-ghost use Rattle.text_types.specs.Stack.{AliasesWithin, Stands, alias_terms};
+ghost use Rattle.text_types.specs.Items.{Aliases, begun};
+ghost use Rattle.text_types.specs.Stack.{Stands, Within};
 ghost use Rattle.type_kinds.specs.Counts.{capped, closed_region, count_types, first_miscount, held, held_behind, is_list, is_signature, is_wrong, no_counts};
 
 use crate::counts::Counts;
@@ -11,7 +11,7 @@ use std::alloc::{AllocError, Global};
 use term_table::{Form, Terms};
 use text_events::Event;
 use text_grammar::Place;
-use text_types::{AliasNumbers, Spelled};
+use text_types::Spelled;
 
 fn is_list(form: Form) -> bool
     ensures { result ≡ is_list form }
@@ -110,4 +110,48 @@ fn pass_counts<S: Spelled>(
         _ => {}
     }
     Ok(())
+}
+
+/// The number at a place, 0 for none.
+fn number_at(numbers: &[u32], index: usize) -> u32
+    ensures is { result ≡ slice_index_or numbers.now index 0 }
+{
+    match numbers.get(index) {
+        Some(number) => *number,
+        None => 0,
+    }
+}
+
+/// Whether the function type that begins at an event has another number of types than the operation before it.
+fn miscounts(place: Place, now: Counts, terms: &Terms, signature: u32) -> bool
+    requires { signature ≤ length terms.now.nodes.keys }
+    ensures { result ≡ (is_signature place && is_wrong now (term_at terms.now.nodes.keys signature)) }
+{
+    is_signature(place) && is_wrong(now, terms, signature)
+}
+
+/// The first function type with another number of types than the operation has operands or named results, where these numbers
+/// stand for what begins at each event.
+pub fn first_type_count<S: Spelled>(
+    alloc: Global,
+    words: &S,
+    terms: &Terms,
+    events: &[Event],
+    numbers: &[u32],
+) -> Result<Option<usize>, AllocError>
+    requires { Within (length terms.now.nodes.keys) numbers.now }
+    ensures { (aliases : Aliases) → Stands terms.now.nodes.keys numbers.now (begun (S.spelling words.now) aliases events.now) → IfOk result (λ found. found ≡ first_miscount (S.spelling words.now) aliases events.now) }
+{
+    let mut now = Counts {
+        operands: 0,
+        names: 0,
+    };
+    let mut outer = Vec::new(alloc);
+    'each: for (index, event) in events.iter().enumerate() {
+        if miscounts(event.place, now, terms, number_at(numbers, index)) {
+            return Ok(Some(index));
+        }
+        pass_counts(words, *event, &mut now, &mut outer)?;
+    }
+    Ok(None)
 }
