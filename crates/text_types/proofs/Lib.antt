@@ -1,0 +1,4 @@
+pub mod StackLaws
+pub mod MarkLaws
+pub mod BegunLaws
+pub mod AliasLaws

@@ -1,0 +1,20 @@
+//! Types and attributes of the generic text: which one begins at an event, and its number.
+#![tactic(auto)]
+
+mod action;
+mod action_rows;
+mod alias_calls;
+mod alias_numbers;
+mod aliases;
+mod begun;
+mod marks;
+mod spelled;
+mod stack;
+
+pub use action::{Action, Actions};
+pub use action_rows::actions_of;
+pub use alias_numbers::AliasNumbers;
+pub use aliases::aliases_at;
+pub use begun::begun_at;
+pub use marks::mark;
+pub use spelled::Spelled;

@@ -1,0 +1,5 @@
+pub mod FirstIn
+pub mod PartLaws
+pub mod DepthLaws
+pub mod RangeLaws
+pub mod CountLaws

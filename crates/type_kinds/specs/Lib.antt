@@ -1,0 +1,7 @@
+pub mod First
+pub mod Begins
+pub mod Sizes
+pub mod Parts
+pub mod Depths
+pub mod Ranges
+pub mod Counts
