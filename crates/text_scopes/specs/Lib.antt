@@ -1,0 +1,6 @@
+pub mod Seen
+pub mod Names
+pub mod Levels
+pub mod Sights
+pub mod Bodies
+pub mod Tables
