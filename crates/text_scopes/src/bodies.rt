@@ -39,7 +39,7 @@ pub fn class_of(classes: &[Class], name: u32) -> Class
     }
 }
 
-fn is_module(class: Class) -> bool
+pub fn is_module(class: Class) -> bool
     ensures { result ≡ is_module class }
 {
     match class {

@@ -9,7 +9,7 @@ mod steps;
 mod sweeps;
 mod tables;
 
-pub use bodies::{Body, Class};
+pub use bodies::{Body, Class, behind, class_of, is_module, opens_body};
 pub use resolving::Uses;
 pub use steps::Step;
 pub use sweeps::first_again;

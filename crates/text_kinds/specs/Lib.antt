@@ -1,0 +1,4 @@
+pub mod Classes
+pub mod Tallies
+pub mod Shapes
+pub mod Kinds
