@@ -4,3 +4,4 @@ pub mod Levels
 pub mod Sights
 pub mod Bodies
 pub mod Tables
+pub mod Examples

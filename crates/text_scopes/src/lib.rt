@@ -14,3 +14,6 @@ pub use resolving::Uses;
 pub use steps::Step;
 pub use sweeps::first_again;
 pub use tables::{Names, first_redefined, resolve};
+
+#[cfg(test)]
+mod tests;
