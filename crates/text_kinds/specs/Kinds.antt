@@ -1,5 +1,5 @@
 -- The refusals of a text, and which of them is answered.
-use Rattle.std.specs.Prelude.{ℕ, ◌==◌, Bool, true, false, List, [], ◌∷◌, Option, Some, None, nat_le, nat_lt, if◌then◌else◌}
+use Rattle.std.specs.Prelude.{ℕ, ◌==◌, Bool, true, List, [], ◌∷◌, Option, Some, None, ◌≡◌, ◌⊎◌, nat_le, nat_lt, if◌then◌else◌}
 use Rattle.text_kinds.specs.declared.found.Found.{Found}
 use Rattle.text_kinds.specs.declared.found.Kind.{Kind}
 use Rattle.text_kinds.specs.declared.found.Kind.TheVariants as kinds
@@ -60,3 +60,30 @@ or_uses None uses = uses
 -- what uses stand for is asked only where nothing else is found
 abbrev pub least : List (Option Found) → List (Option Found) → Option Found
 least others uses = or_uses (least_of others) (least_of uses)
+
+-- What the least is
+
+-- nothing was found
+abbrev pub NothingIn : List (Option Found) → Type 0
+NothingIn [] = Unit {0}
+NothingIn (None ∷ os) = NothingIn os
+NothingIn (Some g ∷ os) = ⊥
+
+-- it is one of those that were found
+abbrev pub Among : Found → List (Option Found) → Type 0
+Among f [] = ⊥
+Among f (None ∷ os) = Among f os
+Among f (Some g ∷ os) = (g ≡ f) ⊎ Among f os
+
+-- it comes before each of them, or is it
+abbrev pub NoneSooner : Found → List (Option Found) → Type 0
+NoneSooner f [] = Unit {0}
+NoneSooner f (None ∷ os) = NoneSooner f os
+NoneSooner f (Some g ∷ os) = (is_sooner f g ≡ true) × NoneSooner f os
+
+abbrev pub IsLeastOf : List (Option Found) → Option Found → Type 0
+IsLeastOf os None = NothingIn os
+IsLeastOf os (Some f) = Among f os × NoneSooner f os
+
+abbrev pub FindsLeast : Type 0
+FindsLeast = (os : List (Option Found)) → IsLeastOf os (least_of os)

@@ -8,7 +8,6 @@ use Rattle.text_scopes.specs.declared.bodies.Class.{Class}
 use Rattle.text_scopes.specs.declared.bodies.Class.TheVariants as classes
 use Rattle.text_scopes.specs.Bodies.{behind, is_module, outside}
 use Rattle.text_kinds.specs.declared.misplaced.Spot.{Spot}
-use Rattle.text_kinds.specs.declared.shape.Phase.{Phase}
 use Rattle.text_kinds.specs.declared.shape.Phase.TheVariants as phases
 use Rattle.text_kinds.specs.declared.shape.Shape.{Shape}
 
@@ -45,7 +44,7 @@ before_behind class s e = elim e.place [
   | places.OpName ↦ if is_module (class e.name) then record s { phase = phases.Named } else record s { phase = phases.Other }
   | places.ResultName ↦ record s { place = s.place + 1; wrong = true }
   | _ ↦ record s { place = s.place + 1 }
-  ]
+]
 
 -- of the module itself: it has no operands, no successors, and one region
 abbrev pub header_behind : Shape → Place → Shape
@@ -132,7 +131,7 @@ shape_behind class s e = elim s.phase [
   | phases.Located ↦ located_behind s e.place
   | phases.Behind ↦ s
   | phases.Other ↦ s
-  ]
+]
 
 -- another operation begins, or the module ends and has a wrong form
 abbrev pub decides : Shape → Place → Bool
@@ -141,7 +140,7 @@ decides s place = elim s.phase [
   | phases.Located ↦ elim place [ places.LocClose ↦ s.wrong | _ ↦ false ]
   | phases.Behind ↦ elim place [ places.OpName ↦ true | places.ResultName ↦ true | _ ↦ false ]
   | _ ↦ false
-  ]
+]
 
 -- at the end of the events: its types are whole, and it has a wrong form
 abbrev pub ends_wrong : Shape → Bool

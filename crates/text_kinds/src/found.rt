@@ -1,7 +1,7 @@
 //! The refusals of a text, and which of them is answered.
 
 ghost use Rattle.std.specs.Prelude.{◌≡◌};
-ghost use Rattle.text_kinds.specs.Kinds.{is_sooner, least, least_of, rank, sooner};
+ghost use Rattle.text_kinds.specs.Kinds.{FindsLeast, is_sooner, least, least_of, rank, sooner};
 
 /// The kinds of refusals, in the order that decides at one place.
 #[derive(Clone, Copy, Drop)]
@@ -90,3 +90,8 @@ fn least_of(all: &[Option<Found>]) -> Option<Found>
     }
     first
 }
+
+/// What is answered is one of those that were found, and none comes before it.
+pub fn law_least()
+    ensures { FindsLeast }
+{}

@@ -56,10 +56,40 @@ fn passes(limit: Limit, classes: &[Class], tally: Tally, event: Event) -> bool
     ensures { result ≡ passes limit (class_in classes.now) tally event }
 {
     match limit {
-        Limit::RegionDepth => { if opens_region(event.place) { 64 < region_depth(tally) } else { false } }
-        Limit::Functions => { if names_function(classes, event) { 65536 <= tally.functions } else { false } }
-        Limit::Blocks => { if begins_block(tally, event.place) { 4096 <= tally.blocks } else { false } }
-        Limit::Operands => { if is_operand(event.place) { 4096 <= tally.operands } else { false } }
-        Limit::Operations => { if names_operation(classes, event) { 262144 <= tally.operations } else { false } }
+        Limit::RegionDepth => {
+            if opens_region(event.place) {
+                64 < region_depth(tally)
+            } else {
+                false
+            }
+        }
+        Limit::Functions => {
+            if names_function(classes, event) {
+                65536 <= tally.functions
+            } else {
+                false
+            }
+        }
+        Limit::Blocks => {
+            if begins_block(tally, event.place) {
+                4096 <= tally.blocks
+            } else {
+                false
+            }
+        }
+        Limit::Operands => {
+            if is_operand(event.place) {
+                4096 <= tally.operands
+            } else {
+                false
+            }
+        }
+        Limit::Operations => {
+            if names_operation(classes, event) {
+                262144 <= tally.operations
+            } else {
+                false
+            }
+        }
     }
 }

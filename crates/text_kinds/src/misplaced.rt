@@ -42,7 +42,13 @@ fn may_stand(spot: Spot, class: Class) -> bool
 {
     match class {
         Class::Function => spot.body.within == 0,
-        Class::Module => { if spot.body.within == 0 { !spot.begun } else { false } }
+        Class::Module => {
+            if spot.body.within == 0 {
+                !spot.begun
+            } else {
+                false
+            }
+        }
         _ => spot.body.within != 0,
     }
 }

@@ -66,7 +66,11 @@ pub fn refused_module(classes: &[Class], events: &[Event]) -> Option<usize>
         }
         shape = shape_behind(classes, shape, *event);
     }
-    if ends_wrong(shape) { Some(shape.place) } else { None }
+    if ends_wrong(shape) {
+        Some(shape.place)
+    } else {
+        None
+    }
 }
 
 fn shape_behind(classes: &[Class], s: Shape, event: Event) -> Shape

@@ -71,7 +71,13 @@ pub fn begins_block(tally: Tally, place: Place) -> bool
 {
     match place {
         Place::BlockLabel => tally.body.within != 0,
-        Place::ResultName | Place::OpName => { if tally.body.within == 0 { false } else { tally.fresh } }
+        Place::ResultName | Place::OpName => {
+            if tally.body.within == 0 {
+                false
+            } else {
+                tally.fresh
+            }
+        }
         _ => false,
     }
 }
@@ -100,7 +106,13 @@ fn blocks_behind(tally: Tally, place: Place) -> usize
     ensures bound { result ≤ tally.blocks + 1 }
 {
     match place {
-        Place::OpName => { if tally.body.within == 0 { 0 } else { one_if(tally.fresh, tally.blocks) } }
+        Place::OpName => {
+            if tally.body.within == 0 {
+                0
+            } else {
+                one_if(tally.fresh, tally.blocks)
+            }
+        }
         _ => one_if(begins_block(tally, place), tally.blocks),
     }
 }
@@ -122,5 +134,9 @@ pub fn region_depth(tally: Tally) -> usize
     requires { tally.body.within + 2 < 2 ^ 64 }
     ensures { result ≡ region_depth tally }
 {
-    if opens_body(tally.body) { 1 } else { tally.body.within + 2 }
+    if opens_body(tally.body) {
+        1
+    } else {
+        tally.body.within + 2
+    }
 }

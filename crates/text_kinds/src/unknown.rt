@@ -25,7 +25,13 @@ fn stands_unknown(classes: &[Class], allowed: bool, event: Event) -> bool
     ensures { result ≡ stands_unknown (class_in classes.now) allowed event }
 {
     match event.place {
-        Place::OpName => { if allowed { false } else { is_unknown(class_of(classes, event.name)) } }
+        Place::OpName => {
+            if allowed {
+                false
+            } else {
+                is_unknown(class_of(classes, event.name))
+            }
+        }
         _ => false,
     }
 }
