@@ -1,0 +1,4 @@
+pub mod LevelLemmas
+pub mod SeenLemmas
+pub mod TurnLemmas
+pub mod SightLemmas
