@@ -11,3 +11,4 @@ pub mod Chains
 pub mod Sites
 pub mod Formed
 pub mod Rules
+pub mod Search

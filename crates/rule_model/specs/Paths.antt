@@ -19,7 +19,7 @@ pub data Reach (bs : Blocks) (v : ℕ) : ℕ → List ℕ → Ops → Type 0 whe
   -- and it goes from there to each of the terminator's successors
   jumps : (o : Op) (t : ℕ) (b : PlainBlock) {l : ℕ} {bound : List ℕ} {rest : Ops}
       → Reach bs v l bound (more_ops o rest) → ends o ≡ true → has t (successors_of o) ≡ true → block_of t bs ≡ Some b
-      → has v (numbers b.args) ≡ false → Reach bs v b.label (numbers b.args) b.ops
+      → has v (numbers b.args) ≡ false → Reach bs v t (numbers b.args) b.ops
 
 -- one of two, by a test
 abbrev pub Either : Bool → Type 0 → Type 0 → Type 0
