@@ -134,8 +134,8 @@ none_on c f s k r e never before q less b =
     let at_most : place q ≤ k = omega (arith, less) in
     let cases : (place q ≡ k) ⊎ (place q < k) = eq-or-lt_of_le at_most in
     elim cases [
-      inl same ↦ never (subst (Breaks c f s) (one_rule q r (same ∙ sym e)) b)
-    | inr h ↦ before q h b
+      | inl same ↦ never (subst (Breaks c f s) (one_rule q r (same ∙ sym e)) b)
+      | inr h ↦ before q h b
     ]
 
 pub none_below : (c : Functions) (f : Op) (s : Site) → NoneBelow c f s 0

@@ -118,23 +118,31 @@ open_at v b o e f = ap (is_open v) e ∙ ap not f
 pub all_seen : {bs : Blocks} {v l : ℕ} {bound : List ℕ} {ops : Ops} (seen : List ℕ)
     → Closed (nexts bs v) (entry_of v (first_block bs)) seen → Reach bs v l bound ops → Seen bs v seen l ops
 all_seen {bs = bs} {v = v} seen c (enters b e f) = record {
-  at = b; is = first_found bs b e; among = c.begins b.label (entry_has v b (first_block bs) e f); stops = refl; goes = refl;
+  at = b;
+  is = first_found bs b e;
+  among = c.begins b.label (entry_has v b (first_block bs) e f);
+  stops = refl;
+  goes = refl;
 }
 all_seen {bs = bs} {v = v} seen c (passes o {l = l} {rest = rest} r e f) =
     let s = all_seen seen c r in
     record {
-      at = s.at; is = s.is; among = s.among;
+      at = s.at;
+      is = s.is;
+      among = s.among;
       stops = sym (stop_on v o rest e f) ∙ s.stops;
       goes = sym (leaves_on v o rest e f) ∙ s.goes;
     }
 all_seen {bs = bs} {v = v} seen c (jumps o t b {l = l} {rest = rest} r e h is f) =
     let s = all_seen seen c r in
     let there : has t (leaves_block v (block_of l bs)) ≡ true =
-        ap (λ p. has t (leaves_block v p)) s.is ∙ ap (has t) (sym s.goes ∙ leaves_off v o rest e) ∙ h in
+    ap (λ p. has t (leaves_block v p)) s.is ∙ ap (has t) (sym s.goes ∙ leaves_off v o rest e) ∙ h in
     record {
-      at = b; is = is;
+      at = b;
+      is = is;
       among = c.stays l t s.among (open_has bs v t (leaves_block v (block_of l bs)) (open_at v b (block_of t bs) is f) there);
-      stops = refl; goes = refl;
+      stops = refl;
+      goes = refl;
     }
 
 -- Where operations lie in a block

@@ -50,8 +50,11 @@ pub set_of : (next : ℕ → List ℕ) (starts : List ℕ) (n : ℕ) (b : Bool)
     → among_reached next starts n ≡ Some b → (seen : List ℕ) × Closed next starts seen × (has n seen ≡ b)
 set_of next starts n b e =
     let seen : List ℕ = grow next 1000 starts [] in
-    let f = found (all_in starts seen && closed next seen seen) (has n seen) b e in
-    (seen, record {
-      begins = λ m h. has_of (λ k. has k seen ≡ true) m starts (among starts seen (and_first _ _ f.0)) h;
-      stays = λ k m i h. has_of (λ j. (m : ℕ) → has m (next j) ≡ true → has m seen ≡ true) k seen (none_left next seen seen (and_second _ _ f.0)) i m h;
-    }, f.1)
+    let f = found (all_in starts seen && closed next seen seen) (has n seen) b e in (
+      seen,
+      record {
+        begins = λ m h. has_of (λ k. has k seen ≡ true) m starts (among starts seen (and_first _ _ f.0)) h;
+        stays = λ k m i h. has_of (λ j. (m : ℕ) → has m (next j) ≡ true → has m seen ≡ true) k seen (none_left next seen seen (and_second _ _ f.0)) i m h;
+      },
+      f.1,
+    )
