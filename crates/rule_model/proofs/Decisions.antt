@@ -5,7 +5,7 @@ use Rattle.plain_tree.specs.Ops.{Op, PlainModule}
 use Rattle.rule_model.specs.declared.rules.Rule.{Rule}
 use Rattle.rule_model.specs.declared.rules.Rule.TheVariants as rule
 use Rattle.rule_model.specs.Words.{AllOf, AnyOf, binds}
-use Rattle.rule_model.specs.Facts.{Functions}
+use Rattle.rule_model.specs.Facts.{functions, Functions}
 use Rattle.rule_model.specs.Paths.{Either, Frame, Reach, Undefined}
 use Rattle.rule_model.specs.Chains.{Chain, op_used}
 use Rattle.rule_model.specs.Sites.{Site, sites}
@@ -108,7 +108,7 @@ abbrev InOrder : ℕ → List Rule → Type 0
 InOrder k [] = (q : Rule) → place q < k
 InOrder k (r ∷ rs) = (place r ≡ k) × InOrder (k + 1) rs
 
-all_below : (q : Rule) → place q < 12
+pub all_below : (q : Rule) → place q < 12
 all_below rule.Operands = omega arith
 all_below rule.Results = omega arith
 all_below rule.Regions = omega arith
@@ -192,13 +192,13 @@ FunctionsAre all earlier fs Open = ⊤
 FunctionsAre all earlier fs NothingBroken = SoundFrom all earlier fs
 FunctionsAre all earlier fs (FirstBroken g n r) = BrokenFrom all earlier fs g n r
 
-more_functions : (all earlier fs : List Op) (f : Op) (x : Answer) → SoundFunction (record { all = all; earlier = earlier }) f
+more_functions : (all earlier fs : List Op) (f : Op) (x : Answer) → SoundFunction (functions all earlier) f
     → FunctionsAre all (earlier ++ f ∷ []) fs x → FunctionsAre all earlier (f ∷ fs) (behind_one x)
 more_functions all earlier fs f Open sound rest = tt
 more_functions all earlier fs f NothingBroken sound rest = (sound, rest)
 more_functions all earlier fs f (FirstBroken g n r) sound rest = (sound, rest)
 
-next_function : (all earlier fs : List Op) (f : Op) (a : AmongSites) (x : Answer) → SitesAre (record { all = all; earlier = earlier }) f (sites f) a
+next_function : (all earlier fs : List Op) (f : Op) (a : AmongSites) (x : Answer) → SitesAre (functions all earlier) f (sites f) a
     → FunctionsAre all (earlier ++ f ∷ []) fs x → FunctionsAre all earlier (f ∷ fs) (or_behind a x)
 next_function all earlier fs f SitesOpen x here rest = tt
 next_function all earlier fs f SitesSound x here rest = more_functions all earlier fs f x here rest
@@ -207,8 +207,8 @@ next_function all earlier fs f (SitesBreak n r) x here rest = here
 functions_right : (all earlier fs : List Op) → FunctionsAre all earlier fs (first_function all earlier fs)
 functions_right all earlier [] = tt
 functions_right all earlier (f ∷ fs) =
-    next_function all earlier fs f (in_function (record { all = all; earlier = earlier }) f) (first_function all (earlier ++ f ∷ []) fs)
-    (if_placed (record { all = all; earlier = earlier }) f (op_apart f) refl) (functions_right all (earlier ++ f ∷ []) fs)
+    next_function all earlier fs f (in_function (functions all earlier) f) (first_function all (earlier ++ f ∷ []) fs)
+    (if_placed (functions all earlier) f (op_apart f) refl) (functions_right all (earlier ++ f ∷ []) fs)
 
 as_said : (m : PlainModule) (a : Answer) → FunctionsAre m.funcs [] m.funcs a → IsRight m a
 as_said m Open h = h

@@ -4,6 +4,11 @@ pub mod Places
 pub mod Own
 pub mod InPlaces
 pub mod Decisions
+pub mod Firsts
+pub mod RenamedFacts
+pub mod RenamedPaths
+pub mod RenamedFormed
+pub mod RenamedModules
 pub mod Trees
 mod OperandExamples
 mod PartExamples

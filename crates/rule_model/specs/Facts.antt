@@ -36,10 +36,15 @@ pub record Facts : Type 0 where
   -- whether no operation stands behind it in its block
   pub last : Bool
 
+-- what others see of a function: the operation's name, and its properties
+pub record Declared : Type 0 where
+  pub kind : List ℕ
+  pub props : Entries
+
 -- the functions of the module, and those in front of the function
 pub record Functions : Type 0 where
-  pub all : List Op
-  pub earlier : List Op
+  pub all : List Declared
+  pub earlier : List Declared
 
 -- From the tree
 
@@ -81,8 +86,11 @@ facts_of type_of holder blocks rest (op k results operands regions successors) =
 
 -- Functions
 
-abbrev pub props_of : Op → Entries
-props_of (op k results operands regions successors) = k.props
+abbrev pub declared : Op → Declared
+declared (op k results operands regions successors) = record { kind = k.name; props = k.props }
+
+abbrev pub functions : (all earlier : List Op) → Functions
+functions all earlier = record { all = map declared all; earlier = map declared earlier }
 
 abbrev pub text_in : PlainAttr → Option (List ℕ)
 text_in (Text text) = Some text

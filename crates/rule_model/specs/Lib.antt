@@ -12,3 +12,4 @@ pub mod Sites
 pub mod Formed
 pub mod Rules
 pub mod Search
+pub mod Promises

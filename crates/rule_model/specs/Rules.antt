@@ -6,7 +6,7 @@ use Rattle.rule_model.specs.declared.rules.Rule.TheVariants as rule
 use Rattle.rule_model.specs.declared.shapes.Shape.{Shape}
 use Rattle.rule_model.specs.Words.{AllOf, AnyOf}
 use Rattle.rule_model.specs.Rows.{shape_of}
-use Rattle.rule_model.specs.Facts.{Facts, Functions}
+use Rattle.rule_model.specs.Facts.{Facts, functions, Functions}
 use Rattle.rule_model.specs.Types.{operands_fit, results_fit}
 use Rattle.rule_model.specs.Parts.{regions_fit, attributes_fit}
 use Rattle.rule_model.specs.Control.{successors_fit, terminators_fit}
@@ -83,9 +83,9 @@ BrokenIn c f n r = BrokenAt c f (sites f) n r
 -- the first of these functions of a module in which a rule is broken is the g-th; some stand in front of them
 abbrev pub BrokenFrom : (all earlier funcs : List Op) → ℕ → ℕ → Rule → Type 0
 BrokenFrom all earlier [] g n r = ⊥
-BrokenFrom all earlier (f ∷ fs) zero n r = BrokenIn (record { all = all; earlier = earlier }) f n r
+BrokenFrom all earlier (f ∷ fs) zero n r = BrokenIn (functions all earlier) f n r
 BrokenFrom all earlier (f ∷ fs) (suc g) n r =
-    SoundFunction (record { all = all; earlier = earlier }) f × BrokenFrom all (earlier ++ f ∷ []) fs g n r
+    SoundFunction (functions all earlier) f × BrokenFrom all (earlier ++ f ∷ []) fs g n r
 
 -- the first function in which a rule is broken, the first operation of it, and the first rule
 abbrev pub Broken : PlainModule → ℕ → ℕ → Rule → Type 0
@@ -94,7 +94,7 @@ Broken m g n r = BrokenFrom m.funcs [] m.funcs g n r
 -- no rule is broken in these functions
 abbrev pub SoundFrom : (all earlier funcs : List Op) → Type 0
 SoundFrom all earlier [] = ⊤
-SoundFrom all earlier (f ∷ fs) = SoundFunction (record { all = all; earlier = earlier }) f × SoundFrom all (earlier ++ f ∷ []) fs
+SoundFrom all earlier (f ∷ fs) = SoundFunction (functions all earlier) f × SoundFrom all (earlier ++ f ∷ []) fs
 
 -- a module that is formed, and in which no rule is broken
 abbrev pub Verified : PlainModule → Type 0

@@ -4,7 +4,7 @@ use Rattle.plain_tree.specs.Ops.{Op, op, Ops, end_of_ops, more_ops, Regions, end
 use Rattle.rule_model.specs.declared.rules.Rule.{Rule}
 use Rattle.rule_model.specs.declared.rules.Rule.TheVariants as rule
 use Rattle.rule_model.specs.Words.{has, AnyOf, numbers, results_of, successors_of, first_block, block_of, binds, count_of}
-use Rattle.rule_model.specs.Facts.{Functions}
+use Rattle.rule_model.specs.Facts.{functions, Functions}
 use Rattle.rule_model.specs.Paths.{ends, Frame}
 use Rattle.rule_model.specs.Chains.{op_used}
 use Rattle.rule_model.specs.Sites.{Site, sites}
@@ -188,7 +188,7 @@ or_behind (SitesBreak n r) x = FirstBroken 0 n r
 
 abbrev pub first_function : (all earlier funcs : List Op) → Answer
 first_function all earlier [] = NothingBroken
-first_function all earlier (f ∷ fs) = or_behind (in_function (record { all = all; earlier = earlier }) f) (first_function all (earlier ++ f ∷ []) fs)
+first_function all earlier (f ∷ fs) = or_behind (in_function (functions all earlier) f) (first_function all (earlier ++ f ∷ []) fs)
 
 abbrev pub answer : PlainModule → Answer
 answer m = first_function m.funcs [] m.funcs

@@ -6,12 +6,11 @@ use Rattle.std.specs.Str.{bytes_eq}
 use Rattle.plain_tree.specs.Types.{PlainType, Int, Func, Ptr, Void, LlvmFunc, types_in, types_of, same_type}
 use Rattle.plain_tree.specs.ValueTypes.{is_own, is_value}
 use Rattle.plain_tree.specs.Attrs.{Entries, PlainAttr, Symbol, entry}
-use Rattle.plain_tree.specs.Ops.{Op}
 use Rattle.rule_model.specs.declared.shapes.Shape.{Shape}
 use Rattle.rule_model.specs.declared.shapes.Shape.TheVariants.{Module, Recast, FuncFunction, FuncCall, FuncReturn, NumberConstant, FlaggedNumbers, TwoNumbers, CompareNumbers, SelectValues, Widen, NarrowNumber, IndexCast, Branch, BranchOn, If, For, While, Switch, Execute, Yield, Condition, Allocate, Deallocate, LoadElement, StoreElement, TakeSize, TakeRank, MemrefCast, LlvmFunction, LlvmCall, LlvmReturn, IntegerConstant, Unset, FlaggedIntegers, TwoIntegers, CompareIntegers, SelectOwn, NarrowInteger, TakePart, PutPart, MovePointer, LoadInteger, StoreInteger}
-use Rattle.rule_model.specs.Words.{if_some, name_of}
+use Rattle.rule_model.specs.Words.{if_some}
 use Rattle.rule_model.specs.Rows.{shape_of}
-use Rattle.rule_model.specs.Facts.{Facts, Functions, Head, Holder, name_in, props_of, type_of_function}
+use Rattle.rule_model.specs.Facts.{Declared, Facts, Functions, Head, Holder, name_in, type_of_function}
 use Rattle.rule_model.specs.Forms.{same_all}
 use Rattle.rule_model.specs.Types.{no_types}
 use Rattle.rule_model.specs.Control.{is_func_body, is_llvm_body}
@@ -63,20 +62,20 @@ is_this name None = false
 is_this name (Some n) = bytes_eq n name
 
 -- whether a function has this name
-abbrev pub is_named : List ℕ → Op → Bool
-is_named name f = is_this name (name_in (props_of f))
+abbrev pub is_named : List ℕ → Declared → Bool
+is_named name f = is_this name (name_in f.props)
 
 -- the first function of this name, and its place
-abbrev pub function_named : List ℕ → List Op → Option Op
+abbrev pub function_named : List ℕ → List Declared → Option Declared
 function_named name [] = None
 function_named name (f ∷ fs) = if is_named name f then Some f else function_named name fs
 
-abbrev pub function_place : List ℕ → List Op → Option ℕ
+abbrev pub function_place : List ℕ → List Declared → Option ℕ
 function_place name [] = None
 function_place name (f ∷ fs) = if is_named name f then Some 0 else option_map (λ n. n + 1) (function_place name fs)
 
 -- no earlier function has the name
-abbrev pub is_new_name : List Op → Option (List ℕ) → Bool
+abbrev pub is_new_name : List Declared → Option (List ℕ) → Bool
 is_new_name earlier None = true
 is_new_name earlier (Some name) = not (list_any (is_named name) earlier)
 
@@ -90,16 +89,16 @@ has_llvm_call_type operands results (Some (LlvmFunc output inputs)) = same_all o
 has_llvm_call_type operands results _ = false
 
 -- the function is there, of this kind and of that type
-abbrev pub is_callee : (Option Shape → Bool) → (Option PlainType → Bool) → Option Op → Bool
+abbrev pub is_callee : (Option Shape → Bool) → (Option PlainType → Bool) → Option Declared → Bool
 is_callee kind test None = false
-is_callee kind test (Some f) = kind (shape_of (name_of f)) && test (type_of_function (props_of f))
+is_callee kind test (Some f) = kind (shape_of f.kind) && test (type_of_function f.props)
 
 abbrev pub symbol_in : PlainAttr → Option (List ℕ)
 symbol_in (Symbol name) = Some name
 symbol_in _ = None
 
 -- of a call that names its callee
-abbrev pub calls_one : (Option Op → Bool) → List Op → Option (List ℕ) → Bool
+abbrev pub calls_one : (Option Declared → Bool) → List Declared → Option (List ℕ) → Bool
 calls_one test all None = true
 calls_one test all (Some name) = test (function_named name all)
 

@@ -3,8 +3,10 @@
 //! A crate of definitions with their laws.
 #![tactic(auto)]
 
+mod laws;
 mod rules;
 mod shapes;
 
+pub use laws::{law_nothing_broken, law_one_answer, law_renaming, law_search};
 pub use rules::Rule;
 pub use shapes::Shape;

@@ -1,0 +1,23 @@
+//! Laws of the rules, each the contract of a function that does nothing.
+
+ghost use Rattle.rule_model.specs.Promises.{NothingIsBroken, OneAnswer, SearchIsRight, VerifiedRenames};
+
+/// Whatever the search for the first broken rule answers is right. So examples that compute it show what the rules say.
+pub fn law_search()
+    ensures { SearchIsRight }
+{}
+
+/// At most one function, operation and rule is the first that is broken.
+pub fn law_one_answer()
+    ensures { OneAnswer }
+{}
+
+/// A formed module is verified exactly where none is the first.
+pub fn law_nothing_broken()
+    ensures { NothingIsBroken }
+{}
+
+/// What is verified stays so under a renaming of values and labels that is one-to-one in each function.
+pub fn law_renaming()
+    ensures { VerifiedRenames }
+{}
