@@ -9,6 +9,7 @@ pub mod RenamedFacts
 pub mod RenamedPaths
 pub mod RenamedFormed
 pub mod RenamedModules
+pub mod InFront
 pub mod Trees
 mod OperandExamples
 mod PartExamples

@@ -1,5 +1,5 @@
 -- Rule `Defined`: paths of operations through a region on which a value isn't defined.
-use Rattle.std.specs.Prelude.{◌≡◌, ℕ, Bool, true, false, List, [], ◌∷◌, ◌++◌, Option, Some, None, ⊤}
+use Rattle.std.specs.Prelude.{◌≡◌, ℕ, Bool, true, false, List, [], ◌∷◌, ◌++◌, Option, Some, None, if◌then◌else◌, ⊤}
 use Rattle.plain_tree.specs.Ops.{Op, op, Ops, end_of_ops, more_ops, Regions, end_of_regions, region, Blocks, end_of_blocks, block, PlainBlock}
 use Rattle.rule_model.specs.Words.{has, AllOf, numbers, name_of, results_of, successors_of, first_block, block_of, binds}
 use Rattle.rule_model.specs.Rows.{is_terminator}
@@ -38,3 +38,20 @@ pub record Frame : Type 0 where
 abbrev pub Undefined : List Frame → ℕ → Type 0
 Undefined [] u = ⊤
 Undefined (f ∷ outer) u = Either (binds u f.blocks) (Reach f.blocks u f.label f.bound f.ops) (Undefined outer u)
+
+-- Blocks that paths come to
+
+-- where a block goes on: to the successors of its first terminator
+abbrev pub exits : Ops → List ℕ
+exits end_of_ops = []
+exits (more_ops o rest) = if ends o then successors_of o else exits rest
+
+-- a path from the entry comes to the block with the label, whatever it passes
+pub data Visits (bs : Blocks) : ℕ → Type 0 where
+  begins : (b : PlainBlock) → first_block bs ≡ Some b → Visits bs b.label
+  follows : (l t : ℕ) (b c : PlainBlock) → Visits bs l → block_of l bs ≡ Some b → has t (exits b.ops) ≡ true → block_of t bs ≡ Some c → Visits bs t
+
+-- what was defined since the start of a block, and what is left of it, where no terminator was passed
+pub data Passed (b : PlainBlock) : List ℕ → Ops → Type 0 where
+  at_start : Passed b (numbers b.args) b.ops
+  one_on : (o : Op) {bound : List ℕ} {rest : Ops} → Passed b bound (more_ops o rest) → ends o ≡ false → Passed b (results_of o ++ bound) rest

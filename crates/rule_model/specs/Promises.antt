@@ -1,8 +1,10 @@
 -- What the laws of the rules promise.
-use Rattle.std.specs.Prelude.{◌≡◌, ◌↔◌, ℕ, ◌==◌, List, [], ◌∷◌}
-use Rattle.plain_tree.specs.Ops.{Op, PlainModule}
+use Rattle.std.specs.Prelude.{◌≡◌, ◌↔◌, ℕ, ◌==◌, true, false, List, [], ◌∷◌, Some}
+use Rattle.plain_tree.specs.Ops.{Op, Ops, Blocks, PlainBlock, PlainModule}
 use Rattle.plain_tree.specs.Renamings.{RenOp}
 use Rattle.rule_model.specs.declared.rules.Rule.{Rule}
+use Rattle.rule_model.specs.Words.{binds_in_ops, block_of, has, numbers}
+use Rattle.rule_model.specs.Paths.{Frame, Passed, Undefined, Visits}
 use Rattle.rule_model.specs.Formed.{Formed}
 use Rattle.rule_model.specs.Rules.{Broken, Verified}
 use Rattle.rule_model.specs.Search.{answer, IsRight}
@@ -39,3 +41,14 @@ pub record MappedModule (m n : PlainModule) : Type 0 where
 -- what is verified stays so under a renaming of values and labels
 abbrev pub VerifiedRenames : Type 0
 VerifiedRenames = (m n : PlainModule) → MappedModule m n → Verified m → Verified n
+
+-- v is defined in no other block of the region
+abbrev pub OnlyIn : ℕ → ℕ → Blocks → Type 0
+OnlyIn v l bs = (t : ℕ) (c : PlainBlock) → (t == l) ≡ false → block_of t bs ≡ Some c → (has v (numbers c.args) ≡ false) × (binds_in_ops v c.ops ≡ false)
+
+-- In a block that is reached, a use in front of its definition isn't defined: v is defined from this place on and nowhere
+-- else, and no terminator stands before.
+abbrev pub UseInFront : Type 0
+UseInFront = (bs : Blocks) (outer : List Frame) (l v : ℕ) (b : PlainBlock) (bound : List ℕ) (ops : Ops)
+    → Visits bs l → block_of l bs ≡ Some b → Passed b bound ops → has v bound ≡ false → binds_in_ops v ops ≡ true → OnlyIn v l bs
+    → Undefined (record { blocks = bs; label = l; bound = bound; ops = ops } ∷ outer) v

@@ -1,5 +1,5 @@
 -- The operations that there are, in the order of their table, each with its shape.
-use Rattle.std.specs.Prelude.{ℕ, ◌+◌, Bool, true, false, List, [], ◌∷◌, ◌++◌, Option, Some, None, codes, if◌then◌else◌}
+use Rattle.std.specs.Prelude.{ℕ, ◌+◌, Bool, true, false, List, [], ◌∷◌, ◌++◌, get_or, map, Option, Some, None, codes, if◌then◌else◌}
 use Rattle.std.specs.Str.{bytes_eq}
 use Rattle.std.specs.Option.{option_map}
 use Rattle.rule_model.specs.declared.shapes.Shape.{Shape}
@@ -145,3 +145,10 @@ ends_block_as (Some s) = ends_block s
 -- whether an operation of this name is a terminator: an unregistered one is none
 abbrev pub is_terminator : List ℕ → Bool
 is_terminator name = ends_block_as (shape_of name)
+
+-- the shape at a place of the table
+abbrev pub shapes : List Shape
+shapes = map (λ r. r.1) rows
+
+abbrev pub shape_at : ℕ → Shape
+shape_at n = get_or shapes n Module
