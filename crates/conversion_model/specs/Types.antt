@@ -1,20 +1,8 @@
 -- The type table: what each type becomes on the way to the llvm dialect, where an index has so many bits.
 use Rattle.std.specs.Prelude.{ℕ, ◌==◌, Bool, true, false, ◌&&◌, List, [], ◌∷◌, ◌++◌, length, replicate, Option, Some, None, if◌then◌else◌}
+-- The own types, which the table maps to themselves, are the value types of the llvm dialect.
+pub use Rattle.plain_tree.specs.ValueTypes.{is_own, all_own}
 use Rattle.plain_tree.specs.Types.{PlainType, PlainTypes, Int, Index, Memref, Func, Ptr, Void, Struct, Array, LlvmFunc, end_of_types, more_types, types_in, types_of}
-
-abbrev mutual
-  -- whether a type is a value type of the llvm dialect: an integer, the pointer, a struct or an array of such.
-  -- These are the own types: the table maps each of them to itself.
-  pub is_own : PlainType → Bool
-  is_own (Int width) = true
-  is_own Ptr = true
-  is_own (Struct fields) = all_own fields
-  is_own (Array n element) = is_own element
-  is_own _ = false
-
-  pub all_own : PlainTypes → Bool
-  all_own end_of_types = true
-  all_own (more_types t ts) = is_own t && all_own ts
 
 -- what stands for `index`, and for each number of a memref
 abbrev pub number_type : ℕ → PlainType

@@ -1,0 +1,15 @@
+pub mod Words
+pub mod Rows
+pub mod Facts
+pub mod Forms
+pub mod Types
+pub mod Parts
+pub mod Control
+pub mod Symbols
+pub mod Paths
+pub mod Chains
+pub mod Sites
+pub mod Formed
+pub mod Rules
+pub mod Search
+pub mod Promises
