@@ -17,7 +17,7 @@ pub use event::Event;
 pub use event_list::events;
 pub use look::{Look, Refusal, look_at};
 pub use naming::names;
-pub use source::Source;
+pub use source::{Source, spelled_word};
 
 /// A text is read in one way: each of its words stands at one place.
 pub fn law_one_reading()

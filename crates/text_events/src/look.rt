@@ -3,6 +3,7 @@
 ghost use Rattle.std.specs.Prelude.{◌≡◌, ◌+◌, ◌&&◌, IfOk, List, length, nat_lt};
 ghost use Rattle.line_grammar.specs.Language.{ReadsText, events};
 ghost use Rattle.text_grammar.specs.declared.places.Place.{Place};
+ghost use Rattle.text_grammar.specs.Steps.{Looked};
 ghost use Rattle.text_events.specs.Aliases.{Aliases};
 ghost use Rattle.text_events.specs.KnownAliases.{Agrees};
 ghost use Rattle.text_events.specs.Language.{Before, ends_at, generic_text, is_alias_name, long_at, named, nothing_before, refused_at, sizes_behind};
@@ -50,6 +51,7 @@ impl Look {
 /// Looks at the words of a text, of which each has the number of its name.
 pub fn look_at(alloc: Global, words: &[Word], names: &[u32]) -> Result<Look, AllocError>
     requires { length words.now ≡ length names.now }
+    ensures form { IfOk result (λ l. Looked l.places.items l.whole words.now) }
     ensures refusal { IfOk result (λ l. l.refusal ≡ first_refusal nothing_before (events l.places.items (named words.now names.now))) }
     ensures found { IfOk result (λ l. IsFound (end_of l.refusal l.whole (length l.places.items)) l.places.items (named words.now names.now)) }
     ensures refused { IfOk result (λ l. IsRefused (end_of l.refusal l.whole (length l.places.items)) (named words.now names.now)) }

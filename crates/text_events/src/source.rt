@@ -88,7 +88,7 @@ impl<'t> Source<'t> {
         ensures { IfOk result (λ v. v.items ≡ spelled_of self.now.text.now self.now.words.now name) }
     {
         match self.word(name) {
-            Some(word) => spelled(alloc, self.text, word),
+            Some(word) => spelled_word(alloc, self.text, word),
             None => Ok(Vec::new(alloc)),
         }
     }
@@ -96,7 +96,7 @@ impl<'t> Source<'t> {
 
 /// What the word spells.
 #[tactic(auto, unfolding(crate::specs::Spelling::spelled))]
-fn spelled(alloc: Global, text: &[u8], word: Word) -> Result<Vec<u8>, AllocError>
+pub fn spelled_word(alloc: Global, text: &[u8], word: Word) -> Result<Vec<u8>, AllocError>
     ensures { IfOk result (λ v. v.items ≡ spelled text.now word) }
 {
     unescaped(alloc, core(word.kind, piece(text, word)))

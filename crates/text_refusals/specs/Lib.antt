@@ -1,0 +1,4 @@
+pub mod Spelling
+pub mod Classes
+pub mod Refusing
+pub mod Found
