@@ -1,10 +1,9 @@
-//! Keys for the tests.
+//! Keys for the tests, and what is shown of an interner.
 
 use intern_api::{InternFault, PlainInterner};
-use key_model::{Handle, Key};
+use key_model::Key;
 use sqlite_items::Boxed;
 use std::alloc::Global;
-use std::process::Abort;
 use tree_model::{NoMemory, TypeTree, one};
 
 /// `iN`
@@ -14,7 +13,8 @@ pub fn int(width: u32) -> Key {
 
 /// `!llvm.struct<(i1)>`
 pub fn single(alloc: Global) -> Result<Key, NoMemory> {
-    Ok(Key::OfType(TypeTree::Struct(one(alloc, TypeTree::Int(1))?)))
+    let fields = one(alloc, TypeTree::Int(1))?;
+    Ok(Key::OfType(TypeTree::Struct(fields)))
 }
 
 /// `!llvm.struct<(i1, i1)>`
@@ -33,34 +33,22 @@ pub fn nested(alloc: Global, depth: u32) -> Result<Key, NoMemory> {
     Ok(Key::OfType(element))
 }
 
-/// The key stands at this shard and place.
-pub fn stands(
-    rt: &impl Abort,
-    interner: &mut PlainInterner,
-    key: &Key,
-    shard: u32,
-    place: u64,
-) -> Result<(), InternFault> {
-    let handle = interner.intern(key)?;
-    assert_eq!(rt; handle.shard(), shard);
-    assert_eq!(rt; handle.place(), place);
-    Ok(())
+/// Whether the key gets this shard and place.
+pub fn stands(interner: &mut PlainInterner, key: &Key, shard: u32, place: u64) -> bool {
+    match interner.intern(key) {
+        Ok(handle) => handle.shard() == shard && handle.place() == place,
+        Err(_) => false,
+    }
 }
 
-/// The shard of the key is full with so many.
-pub fn is_full(rt: &impl Abort, interner: &mut PlainInterner, key: &Key, count: u32) {
-    let full = interner.intern(key);
-    assert_eq!(rt; full, Err(InternFault::Full { count }));
+/// Whether `iN` gets this shard and place.
+pub fn int_stands(interner: &mut PlainInterner, width: u32, shard: u32, place: u64) -> bool {
+    let key = int(width);
+    stands(interner, &key, shard, place)
 }
 
-/// The handle of a key, which is the same when it is asked for again.
-pub fn twice(
-    rt: &impl Abort,
-    interner: &mut PlainInterner,
-    key: &Key,
-) -> Result<Handle, InternFault> {
-    let first = interner.intern(key)?;
-    let second = interner.intern(key)?;
-    assert_eq!(rt; first, second);
-    Ok(first)
+/// Whether the shard of `iN` is full with so many.
+pub fn int_is_full(interner: &mut PlainInterner, width: u32, count: u32) -> bool {
+    let key = int(width);
+    interner.intern(&key) == Err(InternFault::Full { count })
 }

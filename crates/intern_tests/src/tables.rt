@@ -1,10 +1,9 @@
 //! The calls of a shard's table.
 
-use intern_api::{InternFault, ShardTable};
+use intern_api::ShardTable;
 use key_model::{Entry, Head, same_entry};
 use sqlite_items::Items;
 use std::alloc::Global;
-use std::process::Abort;
 use std::test::Fail;
 
 fn index_entry(alloc: Global) -> Entry {
@@ -14,29 +13,34 @@ fn index_entry(alloc: Global) -> Entry {
     }
 }
 
-fn appends(rt: &impl Abort, alloc: Global, table: &mut ShardTable) -> Result<(), InternFault> {
-    let entry = index_entry(alloc);
+/// Whether the entry is put at the first place.
+fn appends(table: &mut ShardTable, entry: Entry) -> bool {
     match table.find(&entry) {
-        Some(_) => {}
-        None => assert_eq!(rt; table.append(entry)?.place(), 0),
+        Some(_) => false,
+        None => match table.append(entry) {
+            Ok(handle) => handle.place() == 0,
+            Err(_) => false,
+        },
     }
-    assert_eq!(rt; table.len(), 1);
-    Ok(())
 }
 
-fn shows(rt: &impl Abort, alloc: Global, table: &ShardTable) -> Result<(), Fail> {
-    if let Some(handle) = table.find(&index_entry(alloc)) {
-        let found = table.entry_at(alloc, handle)?;
-        assert!(rt; same_entry(&found, &index_entry(alloc)));
+/// Whether the entry is found, and read again.
+fn shows(alloc: Global, table: &ShardTable, entry: &Entry) -> bool {
+    match table.find(entry) {
+        Some(handle) => match table.entry_at(alloc, handle) {
+            Ok(found) => same_entry(&found, entry),
+            Err(_) => false,
+        },
+        None => false,
     }
-    Ok(())
 }
 
 #[test]
 fn a_table_finds_what_was_appended(rt: HostRuntime) -> Result<(), Fail> {
-    let alloc = rt.alloc();
-    let mut table = ShardTable::new(alloc, 3, 16, None);
-    appends(&rt, alloc, &mut table)?;
-    assert!(rt; table.find(&index_entry(alloc)).is_some());
-    shows(&rt, alloc, &table)
+    let mut table = ShardTable::new(rt.alloc(), 3, 16, None);
+    assert!(rt; appends(&mut table, index_entry(rt.alloc())));
+    assert_eq!(rt; table.len(), 1);
+    let entry = index_entry(rt.alloc());
+    assert!(rt; shows(rt.alloc(), &table, &entry));
+    Ok(())
 }
