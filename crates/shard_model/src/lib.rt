@@ -6,4 +6,7 @@
 
 mod laws;
 
-pub use laws::{law_append_keeps_lists, law_finds_exactly, law_keys_stay, law_one_handle, law_parts_stand, law_stands_at_place};
+pub use laws::{
+    law_append_keeps_lists, law_finds_exactly, law_keys_stay, law_one_handle, law_parts_stand,
+    law_stands_at_place,
+};
