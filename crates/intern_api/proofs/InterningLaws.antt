@@ -1,9 +1,10 @@
 -- How what an interner makes of keys follows step by step.
-use Rattle.std.specs.Prelude.{◌≡◌, ◌⊎◌, ◌<◌, ℕ, zero, suc, List, [], ◌∷◌, ◌++◌, Some, None, Result, Ok, Err, IfOk, IfErr, OnOk, OnErr, slice_get, length, map}
+use Rattle.std.specs.Prelude.{◌≡◌, ◌⊎◌, ◌<◌, ◌%◌, ℕ, zero, suc, List, [], ◌∷◌, ◌++◌, Some, None, Result, Ok, Err, IfOk, IfErr, OnOk, OnErr, slice_get, length, map}
 use Rattle.std.specs.List.{AllZip}
 use Rattle.std.proofs.Common.{sym, ◌∙◌, ap, subst, refl, inl, inr, append_assoc, arith, get_or, take, drop}
 use Rattle.std.proofs.lemmas.List.{append-nil, map-append}
 use Rattle.std.proofs.lemmas.Nat.{mod_below}
+use Rattle.std.proofs.Math.Logic.{∥∥₁_elim}
 use Rattle.std.proofs.lemmas.Option.{same_Some, none-some}
 use Rattle.key_model.specs.declared.entry.Entry.{Entry}
 use Rattle.key_model.specs.declared.handle.Handle.{Handle}
@@ -15,7 +16,7 @@ use Rattle.tree_model.specs.declared.type_tree.TypeTree.TheVariants as type_part
 use Rattle.tree_model.specs.declared.attr_tree.AttrTree.{AttrTree}
 use Rattle.key_model.specs.Keys.{shard_number, key_hash}
 use Rattle.key_model.specs.Parts.{head_of, parts_of, values_of, types_of, itself, part}
-use Rattle.key_model.specs.Stands.{IsWithinLevels, Grows}
+use Rattle.key_model.specs.Stands.{IsWithinLevels, Grows, AreClosed}
 use Rattle.key_model.specs.StandsLaws as laws
 use Rattle.intern_api.specs.declared.fault.InternFault.{InternFault}
 use Rattle.intern_api.specs.declared.fault.InternFault.TheVariants.{Full, NoMemory}
@@ -24,7 +25,7 @@ use Rattle.intern_api.specs.declared.tables.Tables.{Tables}
 use Rattle.intern_api.specs.Entries.{IsAbsent}
 use Rattle.intern_api.specs.Held.{placed, entry_in, Known, IsHome, head_in, children_of}
 use Rattle.intern_api.specs.KnownLaws.{one_handle, one_key, exact_entry}
-use Rattle.intern_api.specs.Interning.{Holds, IsInOne, Extends, IsFaultFor, Gives, Gathers, Stops, IsPlaced, IsNoRoom, IsUnchanged}
+use Rattle.intern_api.specs.Interning.{Holds, IsInOne, Extends, IsFaultFor, Gives, Gathers, Stops, IsPlaced, IsNoRoom, IsUnchanged, IsEntryOf}
 use Rattle.intern_api.proofs.EntriesLaws.{get_left}
 
 -- a handle keeps its key
@@ -49,13 +50,17 @@ itself_in : (k : Key) → IsInOne k (k ∷ [])
 itself_in k = record { key = k; at = 0; is = refl; within = itself k }
 
 pub extends_none : (p : Tables) (ks : List Key) → Extends p p ks
-extends_none p ks = record { shards = refl; cap = refl; grows = λ h e at. at; only = λ h q held. inl held }
+extends_none p ks = record { shards = refl; cap = refl; grows = λ h e at. at; fresh = λ h e at. inl at; only = λ h q held. inl held }
 
 pub extends_then : (p p1 p2 : Tables) (ks ls : List Key) → Extends p p1 ks → Extends p1 p2 ls → Extends p p2 (ks ++ ls)
 extends_then p p1 p2 ks ls a b = record {
   shards = b.shards ∙ a.shards;
   cap = b.cap ∙ a.cap;
   grows = λ h e at. b.grows h e (a.grows h e at);
+  fresh = λ h e at. elim (b.fresh h e at) as (λ _. (entry_in p.list.items h ≡ Some e) ⊎ ((q : Key) × Holds p2 h q × IsInOne q (ks ++ ls))) [
+    | inl was ↦ elim (a.fresh h e was) as (λ _. (entry_in p.list.items h ≡ Some e) ⊎ ((q : Key) × Holds p2 h q × IsInOne q (ks ++ ls))) [ inl old ↦ inl old | inr new ↦ inr (new.0, kept p1 p2 ls b h new.0 new.1, in_left new.0 ks ls new.2) ]
+    | inr new ↦ inr (new.0, new.1, in_right new.0 ks ls new.2)
+  ];
   only = λ h q held. elim (b.only h q held) as (λ _. Holds p h q ⊎ IsInOne q (ks ++ ls)) [
     | inl was ↦ elim (a.only h q was) as (λ _. Holds p h q ⊎ IsInOne q (ks ++ ls)) [ inl old ↦ inl old | inr new ↦ inr (in_left q ks ls new) ]
     | inr new ↦ inr (in_right q ks ls new)
@@ -70,6 +75,7 @@ extends_key p p1 k a = record {
   shards = a.shards;
   cap = a.cap;
   grows = a.grows;
+  fresh = λ h e at. elim (a.fresh h e at) as (λ _. (entry_in p.list.items h ≡ Some e) ⊎ ((q : Key) × Holds p1 h q × IsInOne q (k ∷ []))) [ inl old ↦ inl old | inr new ↦ inr (new.0, new.1, in_key new.0 k new.2) ];
   only = λ h q held. elim (a.only h q held) as (λ _. Holds p h q ⊎ IsInOne q (k ∷ [])) [ inl old ↦ inl old | inr new ↦ inr (in_key q k new) ];
 }
 
@@ -124,15 +130,26 @@ has_children p (h ∷ hs) [] t i c at none = t
 has_children p (h ∷ hs) (k ∷ ks) t zero c at none = has_entry p t.0.levels c k (subst (λ g. IsWithinLevels head_in children_of head_of parts_of (IsHome p.shards) (entry_in p.list.items) t.0.levels g k) (same_Some h c at) t.0.stands) none
 has_children p (h ∷ hs) (k ∷ ks) t (suc i) c at none = has_children p hs ks t.1 i c at none
 
-pub gathered_children : (p p1 : Tables) (hs : List Handle) (ks : List Key) → Gathers p p1 [] hs ks → (i : ℕ) (c : Handle) → slice_get hs i ≡ Some c → entry_in p1.list.items c ≡ None → ⊥
-gathered_children p p1 hs ks a i c at = has_children p1 a.more ks a.held i c (subst (λ l. slice_get l i ≡ Some c) a.behind at)
+-- each child of an entry has an entry
+child_of : (p : Tables) (n : ℕ) (h : Handle) (k : Key) (e : Entry) (i : ℕ) (c : Handle) → IsWithinLevels head_in children_of head_of parts_of (IsHome p.shards) (entry_in p.list.items) n h k → entry_in p.list.items h ≡ Some e → slice_get e.children i ≡ Some c → entry_in p.list.items c ≡ None → ⊥
+child_of p zero h k e i c w at child none = w
+child_of p (suc n) h k e i c w at child none =
+    let same : w.entry ≡ e = same_Some w.entry e (sym w.is ∙ at) in
+    has_children p w.entry.children (parts_of k) (laws.zip_map _ (Holds p) (λ g q s. record { levels = n; stands = s }) w.entry.children (parts_of k) w.rest) i c (ap (λ f. slice_get (children_of f) i) same ∙ child) none
+
+closed_keys : (p : Tables) → AreClosed children_of (entry_in p.list.items)
+closed_keys p h e i c at child none = ∥∥₁_elim (p.keys h e at) (λ a b. absurd a) (λ r. child_of p r.1.levels h r.0 e i c r.1.stands at child none)
+
+-- an entry of a key whose parts were gathered
+pub gathered_entry : (p p1 : Tables) (hash : ℕ) (k : Key) (e : Entry) → hash ≡ key_hash k → Gathers p p1 [] e.children (parts_of k) → e.head ≡ head_of k → IsEntryOf p1 e (hash % p1.shards)
+gathered_entry p p1 hash k e is a heads = record { key = k; heads = heads; parts = subst (λ l. AllZip (Holds p1) l (parts_of k)) (sym a.behind) a.held; own = ap (λ n. n % p1.shards) is }
 
 past_end : (ts : List ShardTable) (i : ℕ) → slice_get ts i ≡ None → i < length ts → ⊥
 past_end [] i none within = let no : ⊥ = omega arith in no
 past_end (t ∷ ts) zero none within = none-some t (sym none)
 past_end (t ∷ ts) (suc i) none within = past_end ts i none (omega arith)
 
-table_at : (ts : List ShardTable) (i : ℕ) → i < length ts → (t : ShardTable) × (slice_get ts i ≡ Some t)
+pub table_at : (ts : List ShardTable) (i : ℕ) → i < length ts → (t : ShardTable) × (slice_get ts i ≡ Some t)
 table_at ts i within = laws.opened (slice_get ts i) (λ none. let no : ⊥ = past_end ts i none within in no)
 
 shard_within : (p : Tables) (shards : ℕ) (k : Key) → p.shards ≡ shards → 0 < shards → shard_number shards k < length p.list.items
@@ -146,13 +163,17 @@ module _ (p p1 p2 : Tables) (k : Key) (e : Entry) (parts : Gathers p p1 [] e.chi
   grown : Grows (entry_in p1.list.items) (entry_in p2.list.items) → (h : Handle) (q : Key) → Holds p1 h q → Known p1.shards p2.list.items h q
   grown grows h q held = laws.kept head_in children_of head_of parts_of (IsHome p1.shards) (entry_in p1.list.items) (entry_in p2.list.items) grows h q held
 
+  -- of the same number of shards
+  again : {h : Handle} {q : Key} → Known p1.shards p2.list.items h q → Holds p2 h q
+  again {h} {q} = subst (λ n. Known n p2.list.items h q) (sym shards)
+
   held_placed : (h : Handle) → IsPlaced p1.list.items p2.list.items e (shard_number p1.shards k) h → Known p1.shards p2.list.items h k
   held_placed h placed = laws.made head_in children_of head_of parts_of (IsHome p1.shards) (entry_in p2.list.items) h k e placed.of_shard placed.is heads (laws.zip_map (Holds p1) (Known p1.shards p2.list.items) (grown placed.grows) e.children (parts_of k) children_held)
 
   only_placed : (h : Handle) → IsPlaced p1.list.items p2.list.items e (shard_number p1.shards k) h → (n : ℕ) (g : Handle) (q : Key) → IsWithinLevels head_in children_of head_of parts_of (IsHome p1.shards) (entry_in p2.list.items) n g q → Holds p1 g q ⊎ IsInOne q (k ∷ [])
   only_placed h placed zero g q w = absurd w
   only_placed h placed (suc n) g q w = elim (placed.only g w.entry w.is) as (λ _. Holds p1 g q ⊎ IsInOne q (k ∷ [])) [
-    | inl was ↦ inl (record { levels = suc n; stands = laws.stood_within head_in children_of head_of parts_of (IsHome p1.shards) (entry_in p1.list.items) (entry_in p2.list.items) placed.grows p1.closed (suc n) g q w.entry was w })
+    | inl was ↦ inl (record { levels = suc n; stands = laws.stood_within head_in children_of head_of parts_of (IsHome p1.shards) (entry_in p1.list.items) (entry_in p2.list.items) placed.grows (closed_keys p1) (suc n) g q w.entry was w })
     | inr new ↦ inr (subst (λ r. IsInOne r (k ∷ [])) (one_key p1.shards p2.list.items g k q (subst (λ f. Known p1.shards p2.list.items f k) (sym new) (held_placed h placed)) (record { levels = suc n; stands = w })) (itself_in k))
   ]
 
@@ -161,6 +182,10 @@ module _ (p p1 p2 : Tables) (k : Key) (e : Entry) (parts : Gathers p p1 [] e.chi
     shards = shards ∙ parts.extends.shards;
     cap = cap ∙ parts.extends.cap;
     grows = λ g f at. placed.grows g f (parts.extends.grows g f at);
+    fresh = λ g f at. elim (placed.only g f at) as (λ _. (entry_in p.list.items g ≡ Some f) ⊎ ((q : Key) × Holds p2 g q × IsInOne q (k ∷ []))) [
+      | inl was ↦ elim ((extends_key p p1 k parts.extends).fresh g f was) as (λ _. (entry_in p.list.items g ≡ Some f) ⊎ ((q : Key) × Holds p2 g q × IsInOne q (k ∷ []))) [ inl old ↦ inl old | inr new ↦ inr (new.0, again (grown placed.grows g new.0 new.1), new.2) ]
+      | inr new ↦ inr (k, subst (λ x. Holds p2 x k) (sym new) (again (held_placed h placed)), itself_in k)
+    ];
     only = λ g q held. let own : Known p1.shards p2.list.items g q = subst (λ n. Known n p2.list.items g q) shards held in
         elim (only_placed h placed own.levels g q own.stands) as (λ _. Holds p g q ⊎ IsInOne q (k ∷ [])) [
           | inl was ↦ (extends_key p p1 k parts.extends).only g q was
@@ -180,6 +205,7 @@ module _ (p p1 p2 : Tables) (k : Key) (e : Entry) (parts : Gathers p p1 [] e.chi
     shards = shards ∙ parts.extends.shards;
     cap = cap ∙ parts.extends.cap;
     grows = λ g f at. same.grows g f (parts.extends.grows g f at);
+    fresh = λ g f at. elim ((extends_key p p1 k parts.extends).fresh g f (same.shrinks g f at)) as (λ _. (entry_in p.list.items g ≡ Some f) ⊎ ((q : Key) × Holds p2 g q × IsInOne q (k ∷ []))) [ inl old ↦ inl old | inr new ↦ inr (new.0, again (grown same.grows g new.0 new.1), new.2) ];
     only = λ g q held. (extends_key p p1 k parts.extends).only g q (back same g q held);
   }
 
@@ -252,7 +278,3 @@ func_keys t is rs e = sym (map-append OfType is rs) ∙ ap (λ y. map OfType (ty
 
 pub llvm_func_keys : (t : TypeTree) (o : TypeTree) (is : List TypeTree) → t ≡ type.LlvmFunc o is → (OfType o ∷ []) ++ map OfType is ≡ map OfType (types_of (out-TypeTree t))
 llvm_func_keys t o is e = ap (λ y. map OfType (types_of y)) (sym (type_parts.outs-LlvmFunc o is)) ∙ ap (λ u. map OfType (types_of (out-TypeTree u))) (sym e)
-
-pub kept_result : (r : Result Handle InternFault) (p p' : Tables) (k : Key) → IfOk r (Gives p p' k) → IfErr r (Stops p p' (k ∷ [])) → (h : Handle) (q : Key) → Holds p h q → Holds p' h q
-kept_result (Ok g) p p' k a b h q held = kept p p' (k ∷ []) a.extends h q held
-kept_result (Err f) p p' k a b h q held = kept p p' (k ∷ []) b.extends h q held

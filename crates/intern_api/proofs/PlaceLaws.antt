@@ -2,15 +2,21 @@
 use Rattle.std.specs.Prelude.{◌≡◌, ◌⊎◌, ℕ, zero, suc, List, [], ◌∷◌, Option, Some, None, Result, Ok, Err, slice_get, length, IfOk, IfErr, OnErr}
 use Rattle.std.proofs.Common.{sym, ◌∙◌, ap, subst, refl, inl, inr, set}
 use Rattle.std.proofs.lemmas.Option.{same_Some, none-some}
+use Rattle.std.proofs.Math.Logic.{∥∥₁_map}
+use Rattle.std.specs.List.{AllZip}
 use Rattle.key_model.specs.declared.entry.Entry.{Entry}
 use Rattle.key_model.specs.declared.handle.Handle.{Handle}
+use Rattle.key_model.specs.declared.key.Key.{Key}
+use Rattle.key_model.specs.Keys.{shard_number}
+use Rattle.key_model.specs.Parts.{head_of, parts_of}
 use Rattle.key_model.specs.Stands.{Grows}
+use Rattle.key_model.specs.StandsLaws as laws
 use Rattle.intern_api.specs.declared.fault.InternFault.{InternFault}
 use Rattle.intern_api.specs.declared.fault.InternFault.TheVariants.{Full, NoMemory}
 use Rattle.intern_api.specs.declared.shard_table.ShardTable.{ShardTable}
 use Rattle.intern_api.specs.Entries.{IsAbsent, IsPut, IsFaultAt}
-use Rattle.intern_api.specs.Held.{placed, entry_in, IsClosed, children_of}
-use Rattle.intern_api.specs.Interning.{IsPlaced, IsNoRoom, IsUnchanged, HasChildren}
+use Rattle.intern_api.specs.Held.{placed, entry_in, IsHome, Known, AreKeys, head_in, children_of}
+use Rattle.intern_api.specs.Interning.{IsPlaced, IsNoRoom, IsUnchanged}
 use Rattle.intern_api.specs.KnownLaws.{exact_handle}
 
 record IsSetAt {X : Type 0} (xs ys : List X) (x y : X) (s j : ℕ) : Type 0 where
@@ -43,10 +49,6 @@ each_set P ts s t t' at new old k u now = elim (set_at ts s k t t' at) as (λ _.
 at_table : (o : Option ShardTable) (t : ShardTable) (i : ℕ) → o ≡ Some t → placed o i ≡ slice_get t.entries.keys i
 at_table o t i e = ap (λ x. placed x i) e
 
-none_back : {A : Type 0} (o o' : Option A) → ((a : A) → o ≡ Some a → o' ≡ Some a) → o' ≡ None → o ≡ None
-none_back None o' f n = refl
-none_back (Some a) o' f n = absurd (none-some a (sym n ∙ f a refl))
-
 module _ (ts : List ShardTable) (s : ℕ) (t t' : ShardTable) (at : slice_get ts s ≡ Some t) where
   pub grows_set : ((i : ℕ) (f : Entry) → slice_get t.entries.keys i ≡ Some f → slice_get t'.entries.keys i ≡ Some f) → Grows (entry_in ts) (entry_in (set ts s t'))
   grows_set kept h e is = elim (set_at ts s h.shard t t' at) as (λ _. entry_in (set ts s t') h ≡ Some e) [
@@ -72,23 +74,21 @@ module _ (ts : List ShardTable) (s : ℕ) (t t' : ShardTable) (at : slice_get ts
   pub is_set : (e : Entry) (h : Handle) → h.shard ≡ s → IsPut t.shard t.entries.keys t'.entries.keys e h → entry_in (set ts s t') h ≡ Some e
   is_set e h home put = ap (λ n. placed (slice_get (set ts s t') n) h.place) home ∙ at_table _ t' h.place (set_here ts s t t' at) ∙ put.stands.is
 
-  closed_by : (e : Entry) → Grows (entry_in ts) (entry_in (set ts s t')) → ((g : Handle) (f : Entry) → entry_in (set ts s t') g ≡ Some f → (entry_in ts g ≡ Some f) ⊎ (f ≡ e)) → HasChildren ts e → IsClosed ts → IsClosed (set ts s t')
-  closed_by e grows only children closed h f i c is child none =
-      let before : entry_in ts c ≡ None = none_back (entry_in ts c) (entry_in (set ts s t') c) (grows c) none in
-      elim (only h f is) as (λ _. ⊥) [
-        | inl was ↦ closed h f i c was child before
-        | inr new ↦ children i c (subst (λ g. slice_get (children_of g) i ≡ Some c) new child) before
-      ]
+  kept_set : (shards : ℕ) → Grows (entry_in ts) (entry_in (set ts s t')) → (h : Handle) (k : Key) → Known shards ts h k → Known shards (set ts s t') h k
+  kept_set shards grows = laws.kept head_in children_of head_of parts_of (IsHome shards) (entry_in ts) (entry_in (set ts s t')) grows
 
-  pub closed_set : (e : Entry) (r : Result Handle InternFault) → t.shard ≡ s → IfOk r (IsPut t.shard t.entries.keys t'.entries.keys e) → OnErr r (t'.entries.keys ≡ t.entries.keys) → HasChildren ts e → IsClosed ts → IsClosed (set ts s t')
-  closed_set e (Ok h) own put same children closed =
+  keys_by : (shards : ℕ) (e : Entry) (h : Handle) (k : Key) → h.shard ≡ s → IsPut t.shard t.entries.keys t'.entries.keys e h → Known shards (set ts s t') h k → AreKeys shards ts → AreKeys shards (set ts s t')
+  keys_by shards e h k home put known keys g f is = elim (only_set e h home put g f is) as (λ _. ∥ ((q : Key) × Known shards (set ts s t') g q) ∥₁) [
+    | inl was ↦ ∥∥₁_map (keys g f was) (λ r. (r.0, kept_set shards (grows_set put.kept) g r.0 r.1))
+    | inr new ↦ ∣ (k, subst (λ x. Known shards (set ts s t') x k) (sym new) known) ∣₁
+  ]
+
+  -- each entry stands for a key, where the new one does
+  pub keys_set : (shards : ℕ) (e : Entry) (k : Key) (r : Result Handle InternFault) → t.shard ≡ s → s ≡ shard_number shards k → e.head ≡ head_of k → AllZip (Known shards ts) e.children (parts_of k) → IfOk r (IsPut t.shard t.entries.keys t'.entries.keys e) → OnErr r (t'.entries.keys ≡ t.entries.keys) → AreKeys shards ts → AreKeys shards (set ts s t')
+  keys_set shards e k (Ok h) own number heads parts put same keys =
       let home : h.shard ≡ s = put.stands.of_shard ∙ own in
-      closed_by e (grows_set put.kept) (λ g f is. elim (only_set e h home put g f is) as (λ _. (entry_in ts g ≡ Some f) ⊎ (f ≡ e)) [
-        | inl was ↦ inl was
-        | inr new ↦ inr (same_Some f e (sym is ∙ ap (entry_in (set ts s t')) new ∙ is_set e h home put))
-      ]) children closed
-  closed_set e (Err fault) own put same children closed =
-      closed_by e (grows_set (λ i f is. ap (λ l. slice_get l i) same ∙ is)) (λ g f is. inl (shrinks_set (λ i x is. ap (λ l. slice_get l i) (sym same) ∙ is) g f is)) children closed
+      keys_by shards e h k home put (laws.made head_in children_of head_of parts_of (IsHome shards) (entry_in (set ts s t')) h k e (home ∙ number) (is_set e h home put) heads (laws.zip_map (Known shards ts) (Known shards (set ts s t')) (kept_set shards (grows_set put.kept)) e.children (parts_of k) parts)) keys
+  keys_set shards e k (Err fault) own number heads parts put same keys = λ g f is. ∥∥₁_map (keys g f (shrinks_set (λ i x at. ap (λ l. slice_get l i) (sym same) ∙ at) g f is)) (λ r. (r.0, kept_set shards (grows_set (λ i x at. ap (λ l. slice_get l i) same ∙ at)) g r.0 r.1))
 
   pub placed_set : (e : Entry) (r : Result Handle InternFault) → t.shard ≡ s → IfOk r (IsPut t.shard t.entries.keys t'.entries.keys e) → IfOk r (IsPlaced ts (set ts s t') e s)
   placed_set e (Ok h) own put =

@@ -6,7 +6,7 @@ use Rattle.key_model.specs.declared.handle.Handle.{Handle}
 use Rattle.key_model.specs.declared.key.Key.{Key}
 use Rattle.key_model.specs.Keys.{shard_number}
 use Rattle.key_model.specs.Parts.{head_of, parts_of}
-use Rattle.key_model.specs.Stands.{StandsFor, AreClosed}
+use Rattle.key_model.specs.Stands.{StandsFor}
 use Rattle.intern_api.specs.declared.shard_table.ShardTable.{ShardTable}
 
 -- the entry at a place of a table
@@ -22,10 +22,6 @@ entry_in tables h = placed (slice_get tables h.shard) h.place
 abbrev pub children_of : Entry → List Handle
 children_of e = e.children
 
--- each child of an entry has an entry
-abbrev pub IsClosed : List ShardTable → Type 0
-IsClosed tables = AreClosed children_of (entry_in tables)
-
 -- the handle is of the key's shard
 abbrev pub IsHome : ℕ → Handle → Key → Type 0
 IsHome shards h k = h.shard ≡ shard_number shards k
@@ -37,3 +33,7 @@ head_in e = e.head
 -- the handle stands for the key, of so many shards
 abbrev pub Known : ℕ → List ShardTable → Handle → Key → Type 0
 Known shards tables h k = StandsFor head_in children_of head_of parts_of (IsHome shards) (entry_in tables) h k
+
+-- each entry stands for a key
+abbrev pub AreKeys : ℕ → List ShardTable → Type 0
+AreKeys shards tables = (h : Handle) (e : Entry) → entry_in tables h ≡ Some e → ∥ ((k : Key) × Known shards tables h k) ∥₁

@@ -5,7 +5,7 @@ use Rattle.key_model.specs.declared.entry.Entry.{Entry}
 use Rattle.key_model.specs.declared.handle.Handle.{Handle}
 use Rattle.key_model.specs.declared.key.Key.{Key}
 use Rattle.key_model.specs.Keys.{shard_number}
-use Rattle.key_model.specs.Parts.{IsWithin}
+use Rattle.key_model.specs.Parts.{head_of, parts_of, IsWithin}
 use Rattle.key_model.specs.Stands.{Grows}
 use Rattle.intern_api.specs.declared.fault.InternFault.{InternFault}
 use Rattle.intern_api.specs.declared.fault.InternFault.TheVariants.{Full, NoMemory}
@@ -26,11 +26,13 @@ pub record IsInOne (q : Key) (ks : List Key) : Type 0 where
   pub within : IsWithin q key
 
 -- these keys and their parts were added, or some of them, and nothing else: each entry stands where it
--- stood, and each key that a handle has is one that it had, or is in one of these
+-- stood, each other one stands for a key that is in one of these, and each key that a handle has is one
+-- that it had, or is in one of these
 pub record Extends (p p' : Tables) (ks : List Key) : Type 0 where
   pub shards : p'.shards ≡ p.shards
   pub cap : p'.cap ≡ p.cap
   pub grows : Grows (entry_in p.list.items) (entry_in p'.list.items)
+  pub fresh : (h : Handle) (e : Entry) → entry_in p'.list.items h ≡ Some e → (entry_in p.list.items h ≡ Some e) ⊎ ((q : Key) × Holds p' h q × IsInOne q ks)
   pub only : (h : Handle) (q : Key) → Holds p' h q → Holds p h q ⊎ IsInOne q ks
 
 -- no handle has the key, and its shard holds as many keys as it may, which is so many
@@ -44,7 +46,7 @@ abbrev pub IsFaultFor : Tables → List Key → InternFault → Type 0
 IsFaultFor p ks (Full count) = (k : Key) × IsInOne k ks × IsFull p count k
 IsFaultFor p ks NoMemory = Unit {0}
 
--- the key was added, and the handle has it
+-- the key was added, and the handle has it; this is told with the levels of the key
 pub record Gives (p p' : Tables) (k : Key) (h : Handle) : Type 0 where
   pub extends : Extends p p' (k ∷ [])
   pub held : Holds p' h k
@@ -78,6 +80,9 @@ pub record IsUnchanged (ts ts' : List ShardTable) : Type 0 where
   pub grows : Grows (entry_in ts) (entry_in ts')
   pub shrinks : Grows (entry_in ts') (entry_in ts)
 
--- the children of the entry have entries
-abbrev pub HasChildren : List ShardTable → Entry → Type 0
-HasChildren ts e = (i : ℕ) (c : Handle) → slice_get e.children i ≡ Some c → entry_in ts c ≡ None → ⊥
+-- the entry is that of a key of the shard, and its children have the key's parts
+pub record IsEntryOf (p : Tables) (e : Entry) (shard : ℕ) : Type 0 where
+  pub key : Key
+  pub heads : e.head ≡ head_of key
+  pub parts : AllZip (Holds p) e.children (parts_of key)
+  pub own : shard ≡ shard_number p.shards key

@@ -1,6 +1,9 @@
 pub mod Entries
 pub mod Held
 pub mod Interning
+pub mod Knowing
 pub mod KnownLaws
+pub mod KnowingLaws
 pub mod Faults
 pub mod Empty
+pub mod Together

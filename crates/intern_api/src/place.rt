@@ -7,11 +7,11 @@ use crate::tables::Tables;
 use key_model::{Entry, Handle};
 
 impl Tables {
-    ghost use Rattle.intern_api.specs.Interning.{IsPlaced, IsNoRoom, IsUnchanged, HasChildren};
+    ghost use Rattle.intern_api.specs.Interning.{IsPlaced, IsNoRoom, IsUnchanged, IsEntryOf};
 
     /// The handle of an entry, which goes last in the table of its shard where it isn't there.
     pub fn place(&mut self, hash: u32, entry: Entry) -> Result<Handle, InternFault>
-        requires { HasChildren self.old.list.items entry }
+        requires { IsEntryOf self.old entry (hash % self.old.shards) }
         ensures shards { self.new.shards ≡ self.old.shards }
         ensures cap { self.new.cap ≡ self.old.cap }
         ensures ok { IfOk result (IsPlaced self.old.list.items self.new.list.items entry (hash % self.old.shards)) }

@@ -8,7 +8,7 @@ ghost use Rattle.tree_model.specs.declared.attr_tree.AttrTree.{out-AttrTree};
 use crate::entry::Head;
 use sqlite_items::Items;
 use std::alloc::{AllocError, Global};
-use tree_model::{AttrTree, Name, NameList, NoMemory, TypeTree, copy_names};
+use tree_model::{AttrTree, Name, NameList, NoMemory, TypeTree};
 
 /// The outermost level of a type. A function type of 2^32 inputs is want of memory.
 pub fn type_head(alloc: Global, t: &TypeTree) -> Result<Head, NoMemory>
@@ -33,11 +33,22 @@ pub fn type_head(alloc: Global, t: &TypeTree) -> Result<Head, NoMemory>
 fn entry_names(alloc: Global, entries: &[(Name, AttrTree)]) -> Result<NameList, NoMemory>
     ensures { IfOk result (λ names. names ≡ names_of entries.now) }
 {
-    let mut names = Items::new(alloc);
+    let mut names = Vec::with_capacity(alloc, entries.len())?;
     for entry in entries {
         names.push(entry.0.copy(alloc)?)?;
     }
-    Ok(names)
+    Ok(Items::from_vec(names))
+}
+
+// Copies of names, with room for no more.
+fn kept_names(alloc: Global, names: &[Name]) -> Result<NameList, NoMemory>
+    ensures { IfOk result (λ copies. copies ≡ names.now) }
+{
+    let mut copies = Vec::with_capacity(alloc, names.len())?;
+    for name in names {
+        copies.push(name.copy(alloc)?)?;
+    }
+    Ok(Items::from_vec(copies))
 }
 
 /// The outermost level of an attribute.
@@ -58,7 +69,7 @@ pub fn attr_head(alloc: Global, a: &AttrTree) -> Result<Head, NoMemory>
         }
         AttrTree::Dialect(name, words) => {
             let name = name.copy(alloc)?;
-            let words = copy_names(alloc, words.as_slice())?;
+            let words = kept_names(alloc, words.as_slice())?;
             Ok(Head::Dialect(name, words))
         }
     }

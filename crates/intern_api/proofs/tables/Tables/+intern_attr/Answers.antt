@@ -3,7 +3,7 @@ use Rattle.std.proofs.lemmas.List.{take_all}
 use Rattle.key_model.specs.Parts.{parts_of}
 use Rattle.key_model.specs.declared.key.Key.TheVariants.{OfAttr}
 use Rattle.intern_api.specs.Interning.{Gathers, Stops, IsPlaced, IsNoRoom}
-use Rattle.intern_api.proofs.InterningLaws.{stops_parts, stops_memory, gathered_children, gives_result, stops_result, gathers_next, stops_at, values_map}
+use Rattle.intern_api.proofs.InterningLaws.{stops_parts, stops_memory, gathered_entry, gives_result, stops_result, gathers_next, stops_at, values_map}
 use Rattle.intern_api.proofs.tables.Tables.+intern_attr.Goals as goal
 
 pub intern_attr-returns-in-Err-clause-err : goal.intern_attr-returns-in-Err-clause-err
@@ -13,7 +13,7 @@ pub intern_attr-returns-in_default-attr_head-clause-err : goal.intern_attr-retur
 intern_attr-returns-in_default-attr_head-clause-err t c = stops_memory c.args.self.now c.intern_parts_of.new.self (OfAttr c.args.a.now) _ _ c.in_default.ensures.ok
 
 pub intern_attr-place-requires : goal.intern_attr-place-requires
-intern_attr-place-requires t c = gathered_children c.args.self.now c.intern_parts_of.new.self c.intern_parts_of.new.children (parts_of (OfAttr c.args.a.now)) (subst (λ l. Gathers c.args.self.now c.intern_parts_of.new.self l c.intern_parts_of.new.children (parts_of (OfAttr c.args.a.now))) c.new-children.ensures c.in_default.ensures.ok)
+intern_attr-place-requires t c = gathered_entry c.args.self.now c.intern_parts_of.new.self c.attr_hash.result (OfAttr c.args.a.now) (record { head = c.in-Ok.head; children = c.intern_parts_of.new.children }) c.attr_hash.ensures (subst (λ l. Gathers c.args.self.now c.intern_parts_of.new.self l c.intern_parts_of.new.children (parts_of (OfAttr c.args.a.now))) c.new-children.ensures c.in_default.ensures.ok) c.in-Ok.ensures
 
 pub intern_attr-returns-clause-ok : goal.intern_attr-returns-clause-ok
 intern_attr-returns-clause-ok t c = gives_result c.args.self.now c.intern_parts_of.new.self c.place.new.self (OfAttr c.args.a.now) (record { head = c.in-Ok.head; children = c.intern_parts_of.new.children }) (subst (λ l. Gathers c.args.self.now c.intern_parts_of.new.self l c.intern_parts_of.new.children (parts_of (OfAttr c.args.a.now))) c.new-children.ensures c.in_default.ensures.ok) c.in-Ok.ensures c.place.ensures.shards c.place.ensures.cap c.place.result (subst (λ n. IfOk c.place.result (IsPlaced c.intern_parts_of.new.self.list.items c.place.new.self.list.items (record { head = c.in-Ok.head; children = c.intern_parts_of.new.children }) (n % c.intern_parts_of.new.self.shards))) c.attr_hash.ensures c.place.ensures.ok)

@@ -3,7 +3,7 @@ use Rattle.key_model.specs.Parts.{parts_of}
 use Rattle.key_model.specs.declared.key.Key.TheVariants.{OfType}
 use Rattle.tree_model.specs.declared.type_tree.TypeTree as type
 use Rattle.intern_api.specs.Interning.{Gathers, Stops, IsPlaced, IsNoRoom}
-use Rattle.intern_api.proofs.InterningLaws.{stops_parts, stops_memory, gathered_children, gives_result, stops_result, gathers_next, stops_at, stops_first, then_ok, then_err, func_keys, llvm_func_keys}
+use Rattle.intern_api.proofs.InterningLaws.{stops_parts, stops_memory, gathered_entry, gives_result, stops_result, gathers_next, stops_at, stops_first, then_ok, then_err, func_keys, llvm_func_keys}
 use Rattle.intern_api.proofs.tables.Tables.+intern_type.Goals as goal
 
 pub intern_type-returns-in-Err-clause-err : goal.intern_type-returns-in-Err-clause-err
@@ -13,7 +13,7 @@ pub intern_type-returns-in_default-type_head-clause-err : goal.intern_type-retur
 intern_type-returns-in_default-type_head-clause-err t c = stops_memory c.args.self.now c.intern_types_of.new.self (OfType c.args.t.now) _ _ c.in_default.ensures.ok
 
 pub intern_type-place-requires : goal.intern_type-place-requires
-intern_type-place-requires t c = gathered_children c.args.self.now c.intern_types_of.new.self c.intern_types_of.new.children (parts_of (OfType c.args.t.now)) (subst (λ l. Gathers c.args.self.now c.intern_types_of.new.self l c.intern_types_of.new.children (parts_of (OfType c.args.t.now))) c.new-children.ensures c.in_default.ensures.ok)
+intern_type-place-requires t c = gathered_entry c.args.self.now c.intern_types_of.new.self c.type_hash.result (OfType c.args.t.now) (record { head = c.in-Ok.head; children = c.intern_types_of.new.children }) c.type_hash.ensures (subst (λ l. Gathers c.args.self.now c.intern_types_of.new.self l c.intern_types_of.new.children (parts_of (OfType c.args.t.now))) c.new-children.ensures c.in_default.ensures.ok) c.in-Ok.ensures
 
 pub intern_type-returns-clause-ok : goal.intern_type-returns-clause-ok
 intern_type-returns-clause-ok t c = gives_result c.args.self.now c.intern_types_of.new.self c.place.new.self (OfType c.args.t.now) (record { head = c.in-Ok.head; children = c.intern_types_of.new.children }) (subst (λ l. Gathers c.args.self.now c.intern_types_of.new.self l c.intern_types_of.new.children (parts_of (OfType c.args.t.now))) c.new-children.ensures c.in_default.ensures.ok) c.in-Ok.ensures c.place.ensures.shards c.place.ensures.cap c.place.result (subst (λ n. IfOk c.place.result (IsPlaced c.intern_types_of.new.self.list.items c.place.new.self.list.items (record { head = c.in-Ok.head; children = c.intern_types_of.new.children }) (n % c.intern_types_of.new.self.shards))) c.type_hash.ensures c.place.ensures.ok)

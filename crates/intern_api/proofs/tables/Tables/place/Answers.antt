@@ -2,7 +2,7 @@ use Rattle.std.proofs.Common.{◌≡◌, ◌%◌, sym, ◌∙◌, slice_get, Som
 use Rattle.std.proofs.lemmas.Nat.{mod_below}
 use Rattle.std.proofs.lemmas.List.{length-set}
 use Rattle.std.proofs.lemmas.Option.{slice_get_read}
-use Rattle.intern_api.proofs.PlaceLaws.{each_set, closed_set, placed_set, unchanged_set, room_set}
+use Rattle.intern_api.proofs.PlaceLaws.{each_set, keys_set, placed_set, unchanged_set, room_set}
 use Rattle.intern_api.proofs.tables.Tables.place.Goals as goal
 
 pub invariant_of-self-clause-sized : goal.invariant_of-self-clause-sized
@@ -18,10 +18,10 @@ invariant_of-self-clause-capped c =
     let at : slice_get c.args.self.now.list.items (c.args.hash % c.args.self.now.shards) ≡ Some c.index_mut.result.now = slice_get_read _ _ _ _ (sym c.args.self.now.sized) (mod_below _ _ c.args.self.now.some) c.index_mut.ensures.value in
     each_set (λ k t. t.cap ≡ c.args.self.now.cap) _ _ _ _ at (c.put.ensures.cap ∙ c.args.self.now.capped _ _ at) c.args.self.now.capped
 
-pub invariant_of-self-clause-closed : goal.invariant_of-self-clause-closed
-invariant_of-self-clause-closed c =
+pub invariant_of-self-clause-keys : goal.invariant_of-self-clause-keys
+invariant_of-self-clause-keys c =
     let at : slice_get c.args.self.now.list.items (c.args.hash % c.args.self.now.shards) ≡ Some c.index_mut.result.now = slice_get_read _ _ _ _ (sym c.args.self.now.sized) (mod_below _ _ c.args.self.now.some) c.index_mut.ensures.value in
-    closed_set _ _ _ _ at c.args.entry c.put.result (c.args.self.now.numbered _ _ at) c.put.ensures.put c.put.ensures.kept c.requires c.args.self.now.closed
+    keys_set _ _ _ _ at c.args.self.now.shards c.args.entry c.requires.key c.put.result (c.args.self.now.numbered _ _ at) c.requires.own c.requires.heads c.requires.parts c.put.ensures.put c.put.ensures.kept c.args.self.now.keys
 
 pub returns-clause-ok : goal.returns-clause-ok
 returns-clause-ok c =
