@@ -1,11 +1,10 @@
 -- Terms as types.
-use Rattle.std.specs.Prelude.{ℕ, List, [], ◌∷◌}
+use Rattle.std.specs.Prelude.{List, [], ◌∷◌}
 use Rattle.tree_model.specs.declared.type_tree.Dim.{Dim}
 use Rattle.tree_model.specs.declared.type_tree.Dim.TheVariants.{Fixed, Dynamic}
 use Rattle.plain_tree.specs.Types.{PlainType, PlainTypes, Int, Index, Memref, Func, Ptr, Void, Struct, Array, LlvmFunc, end_of_types, more_types}
-use Rattle.term_table.specs.declared.node.Form.{Form}
 use Rattle.term_table.specs.declared.node.Form.TheVariants as forms
-use Rattle.term_table.specs.Terms.{Term, nothing, node}
+use Rattle.term_table.specs.Terms.{Term, node}
 
 -- the sizes before the element of a memref
 abbrev pub sizes_of : Term → List Dim
