@@ -16,7 +16,7 @@ abbrev at : Place → ℕ → Event
 at place name = record { place = place; name = name }
 
 -- a word whose name is its own number; 0 is `index` and `?`
-abbrev words : Spelling
+abbrev pub words : Spelling
 words = record {
   width = λ name. if name == 0 then None else Some name;
   size = λ name. if name == 0 then None else Some name;
