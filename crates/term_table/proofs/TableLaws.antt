@@ -1,13 +1,12 @@
 -- How a table of terms grows.
-use Rattle.std.proofs.Common.{◌≡◌, ◌≢◌, ℕ, zero, suc, ◌+◌, ◌<◌, ◌≤◌, Bool, true, false, List, [], ◌∷◌, ◌++◌, length, get_or, Option, Some, None, refl, sym, ◌∙◌, ap, subst, inl, inr, arith}
+use Rattle.std.proofs.Common.{◌≡◌, ℕ, zero, suc, ◌+◌, ◌<◌, ◌≤◌, Bool, true, false, List, [], ◌∷◌, ◌++◌, length, Option, Some, None, refl, sym, ◌∙◌, ap, subst, inl, inr, arith}
 use Rattle.std.specs.Prelude.{◌⊎◌, cond, ◌||◌, slice_get}
 use Rattle.std.specs.List.{list_any}
 use Rattle.std.specs.Bool.{Decides}
 use Rattle.std.proofs.lemmas.List.{get_or_append_left, get_or_at, length_push}
-use Rattle.std.proofs.lemmas.Option.{same_Some, none-some, slice_get_within}
+use Rattle.std.proofs.lemmas.Option.{same_Some, none-some}
 use Rattle.indexmap.specs.IndexSet.{insert_key}
 use mathlib.Core.Bool.{true≢false}
-use Rattle.term_table.specs.declared.node.Form.{Form}
 use Rattle.term_table.specs.declared.node.Node.{Node}
 use Rattle.term_table.specs.Terms.{Term, nothing, node, at, term_of, terms_from, term_at, made_of, PartsBefore, OneNumber, Grows}
 use Rattle.std.specs.Prelude.{Result, Ok, Err, IfOk, OnErr, IfSome}

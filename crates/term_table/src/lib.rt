@@ -7,3 +7,6 @@ mod table_calls;
 
 pub use node::{Form, Node};
 pub use table::Terms;
+
+#[cfg(test)]
+mod tests;

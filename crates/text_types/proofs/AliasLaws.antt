@@ -1,5 +1,5 @@
 -- One alias more.
-use Rattle.std.proofs.Common.{◌≡◌, ℕ, zero, suc, ◌+◌, ◌≤◌, ◌<◌, Bool, true, false, List, [], ◌∷◌, length, map, drop, get_or, refl, sym, ◌∙◌, ap, subst, arith}
+use Rattle.std.proofs.Common.{◌≡◌, ℕ, ◌+◌, ◌≤◌, ◌<◌, Bool, true, false, List, [], ◌∷◌, length, map, drop, get_or, refl, sym, ◌∙◌, ap, subst, arith}
 use Rattle.std.specs.Prelude.{◌==◌, if◌then◌else◌}
 use Rattle.std.proofs.lemmas.List.{drop_more}
 use mathlib.Core.Path.{fun_ext}
@@ -10,7 +10,7 @@ use Rattle.term_table.proofs.TableLaws.{zero_is}
 use Rattle.text_types.specs.declared.alias_numbers.AliasNumbers.{AliasNumbers}
 use Rattle.text_types.specs.Spelling.{Spelling}
 use Rattle.text_types.specs.Items.{Aliases, begins, begun}
-use Rattle.text_types.specs.Aliases.{after, aliases_from, aliases_of, bound, defines, piece}
+use Rattle.text_types.specs.Aliases.{after, aliases_from, bound, defines, piece}
 use Rattle.text_types.specs.Stack.{Within, Stands, AliasesWithin, alias_terms, number_of, first_number}
 
 pub first_within : (last : ℕ) (numbers : List ℕ) → Within last numbers → first_number numbers ≤ last

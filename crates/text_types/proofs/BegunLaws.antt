@@ -1,18 +1,18 @@
 -- One event more, from the right.
-use Rattle.std.proofs.Common.{◌≡◌, ℕ, zero, suc, ◌+◌, ◌-◌, ◌≤◌, ◌<◌, List, [], ◌∷◌, length, map, drop, get_or, Option, Some, None, refl, sym, ◌∙◌, ap, subst, arith}
+use Rattle.std.proofs.Common.{◌≡◌, ℕ, ◌+◌, ◌-◌, ◌≤◌, List, [], ◌∷◌, length, map, drop, get_or, Option, Some, None, sym, ◌∙◌, ap, subst, arith}
 use Rattle.std.specs.Prelude.{reverse, slice_get}
 use Rattle.std.proofs.lemmas.List.{drop_more}
 use Rattle.text_grammar.specs.declared.places.Place.{Place}
 use Rattle.text_events.specs.declared.event.Event.{Event}
 use Rattle.term_table.specs.declared.node.Node.{Node}
-use Rattle.term_table.specs.Terms.{Term, nothing, term_at, Grows}
+use Rattle.term_table.specs.Terms.{Term, term_at, Grows}
 use Rattle.term_table.proofs.TableLaws.{zero_is}
 use Rattle.text_types.specs.declared.alias_numbers.AliasNumbers.{AliasNumbers}
 use Rattle.text_types.specs.Spelling.{Spelling}
 use Rattle.text_types.specs.Actions.{actions_at}
 use Rattle.text_types.specs.Items.{acted_both, items, begun, first_of, place_next}
 use Rattle.text_types.specs.Stack.{Within, Stands, AliasesWithin, alias_terms, number_of}
-use Rattle.text_types.proofs.StackLaws.{stands_put, stands_on, within_more, kept_all}
+use Rattle.text_types.proofs.StackLaws.{stands_put}
 
 -- what stands last in a list that isn't empty
 some_last : {X : Type 0} (x : X) (xs : List X) → slice_get (x ∷ xs) (length xs) ≡ None → ⊥

@@ -1,4 +1,5 @@
 pub mod StackLaws
+pub mod PlainLaws
 pub mod MarkLaws
 pub mod BegunLaws
 pub mod AliasLaws

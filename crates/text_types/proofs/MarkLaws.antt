@@ -1,5 +1,5 @@
 -- One event more, from the right.
-use Rattle.std.proofs.Common.{◌≡◌, ℕ, ◌+◌, ◌≤◌, ◌<◌, Bool, List, [], ◌∷◌, ◌++◌, length, take, drop, get_or, set, append_assoc, refl, sym, ◌∙◌, ap, subst, arith}
+use Rattle.std.proofs.Common.{◌≡◌, ℕ, ◌+◌, ◌≤◌, Bool, List, [], ◌∷◌, ◌++◌, length, take, drop, get_or, set, append_assoc, sym, ◌∙◌, ap, arith}
 use Rattle.std.proofs.lemmas.List.{drop_more, take_more, get_or_append_left, get_or-take, set_at, length-take-le}
 use Rattle.text_grammar.specs.declared.places.Place.{Place}
 use Rattle.text_events.specs.declared.event.Event.{Event}

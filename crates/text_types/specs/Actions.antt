@@ -1,9 +1,7 @@
 -- What each event does to the terms behind it.
-use Rattle.std.specs.Prelude.{ℕ, Bool, true, false, Option, Some, None, if◌then◌else◌, min}
+use Rattle.std.specs.Prelude.{ℕ, Bool, Option, Some, None, if◌then◌else◌, min}
 use Rattle.text_grammar.specs.declared.places.Place.{Place}
 use Rattle.text_grammar.specs.declared.places.Place.TheVariants as places
-use Rattle.text_events.specs.declared.event.Event.{Event}
-use Rattle.term_table.specs.declared.node.Form.{Form}
 use Rattle.term_table.specs.declared.node.Form.TheVariants as forms
 use Rattle.text_types.specs.declared.action.Action.{Action}
 use Rattle.text_types.specs.declared.action.Action.TheVariants.{Keep, End, Alias, Put, Wrap, Join}

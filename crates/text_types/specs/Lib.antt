@@ -5,4 +5,5 @@ pub mod Items
 pub mod Aliases
 pub mod Plain
 pub mod Stack
+pub mod Laws
 pub mod Examples

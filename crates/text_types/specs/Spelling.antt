@@ -1,5 +1,5 @@
 -- What words spell, by the numbers of their names.
-use Rattle.std.specs.Prelude.{ℕ, ℤ, Bool, List, Option}
+use Rattle.std.specs.Prelude.{ℕ, Bool, Option}
 
 pub record Spelling : Type 0 where
   -- the width of an integer type, and none for `index`

@@ -1,17 +1,16 @@
 -- One event more of the counts.
-use Rattle.std.proofs.Common.{◌≡◌, ℕ, zero, suc, ◌+◌, ◌≤◌, ◌<◌, Bool, true, false, List, [], ◌∷◌, length, map, drop, get_or, Option, Some, refl, sym, ◌∙◌, ap, subst, arith}
+use Rattle.std.proofs.Common.{◌≡◌, ℕ, zero, suc, ◌+◌, ◌≤◌, ◌<◌, Bool, true, false, List, [], ◌∷◌, length, map, drop, get_or, Option, Some, sym, ◌∙◌, ap, arith}
 use Rattle.std.specs.Prelude.{◌&&◌}
 use Rattle.std.proofs.lemmas.List.{drop_more}
-use Rattle.text_grammar.specs.declared.places.Place.{Place}
 use Rattle.text_events.specs.declared.event.Event.{Event}
 use Rattle.term_table.specs.declared.node.Node.{Node}
-use Rattle.term_table.specs.Terms.{Term, term_at}
+use Rattle.term_table.specs.Terms.{term_at}
 use Rattle.text_types.specs.Spelling.{Spelling}
 use Rattle.text_types.specs.Items.{Aliases, begins, begun}
 use Rattle.text_types.specs.Stack.{Within, Stands}
 use Rattle.type_kinds.specs.declared.counts.Counts.{Counts}
 use Rattle.type_kinds.specs.First.{first_in}
-use Rattle.type_kinds.specs.Counts.{Held, held, held_behind, is_signature, is_wrong, miscounts, pass_counts}
+use Rattle.type_kinds.specs.Counts.{held, held_behind, is_signature, is_wrong, miscounts, pass_counts}
 use Rattle.type_kinds.proofs.FirstIn.{ahead, next_turn, found}
 
 pub number_within : (last : ℕ) (numbers : List ℕ) (i : ℕ) → Within last numbers → get_or numbers i 0 ≤ last

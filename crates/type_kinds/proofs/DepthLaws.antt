@@ -1,5 +1,5 @@
 -- One event more of the depths.
-use Rattle.std.proofs.Common.{◌≡◌, ℕ, ◌+◌, ◌<◌, ◌≤◌, Bool, List, length, drop, get_or, Option, Some, refl, sym, ◌∙◌, ap, arith, nat_lt, max}
+use Rattle.std.proofs.Common.{◌≡◌, ℕ, ◌+◌, ◌<◌, ◌≤◌, Bool, List, length, drop, get_or, Option, sym, ◌∙◌, ap, nat_lt, max}
 use Rattle.text_events.specs.declared.event.Event.{Event}
 use Rattle.type_kinds.specs.First.{first_in}
 use Rattle.type_kinds.specs.Sizes.{Sizes, moved}

@@ -1,7 +1,6 @@
 -- One event more of the count of parts.
-use Rattle.std.proofs.Common.{◌≡◌, ℕ, ◌+◌, ◌-◌, ◌<◌, ◌≤◌, List, length, drop, get_or, Option, Some, refl, sym, ◌∙◌, ap, arith, nat_lt}
+use Rattle.std.proofs.Common.{◌≡◌, ℕ, ◌+◌, ◌-◌, ◌<◌, ◌≤◌, List, length, drop, get_or, Option, Some, sym, ◌∙◌, ap, arith, nat_lt}
 use Rattle.text_events.specs.declared.event.Event.{Event}
-use Rattle.text_types.specs.Items.{place_next}
 use Rattle.type_kinds.specs.First.{first_in}
 use Rattle.type_kinds.specs.Sizes.{Sizes, moved}
 use Rattle.type_kinds.specs.Parts.{Counted, most_parts, parts_at, count, too_many}

@@ -1,5 +1,5 @@
 -- Where a type or attribute begins.
-use Rattle.std.specs.Prelude.{Bool, true, false, Option, Some, None, if◌then◌else◌}
+use Rattle.std.specs.Prelude.{Bool, true, false, Option, Some, if◌then◌else◌}
 use Rattle.text_grammar.specs.declared.places.Place.{Place}
 use Rattle.text_grammar.specs.declared.places.Place.TheVariants as places
 use Rattle.type_kinds.specs.declared.begins.Begin.{Begin}

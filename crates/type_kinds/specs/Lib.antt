@@ -5,3 +5,4 @@ pub mod Parts
 pub mod Depths
 pub mod Ranges
 pub mod Counts
+pub mod Examples

@@ -1,5 +1,5 @@
 -- The sizes of aliases, as parts or as depths, in order of the text.
-use Rattle.std.specs.Prelude.{ℕ, ◌==◌, Bool, true, false, List, [], Option, Some, None, nat_eq, if◌then◌else◌}
+use Rattle.std.specs.Prelude.{ℕ, ◌==◌, Bool, false, Option, Some, None, nat_eq, if◌then◌else◌}
 use Rattle.std.specs.HashMap.{get}
 use Rattle.text_events.specs.declared.event.Event.{Event}
 use Rattle.text_types.specs.Aliases.{is_start, defines}

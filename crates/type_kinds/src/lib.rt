@@ -17,3 +17,6 @@ pub use parts::{MOST_PARTS, first_part_too_many};
 pub use ranges::first_out_of_range;
 pub use type_count::first_type_count;
 pub use type_depth::{MOST_DEPTH, first_type_too_deep};
+
+#[cfg(test)]
+mod tests;

@@ -1,4 +1,4 @@
-use Rattle.std.proofs.Common.{◌+◌, get_or, arith, ap, length, refl, rules, sym, ◌∙◌}
+use Rattle.std.proofs.Common.{◌+◌, get_or, arith, ap, ◌∙◌}
 use Rattle.text_grammar.specs.declared.places.Place.TheVariants as places
 use Rattle.text_events.specs.declared.event.Event.{Event}
 use Rattle.std.proofs.lemmas.List.{take_rest}

@@ -1,4 +1,4 @@
-use Rattle.std.proofs.Common.{List, ℕ, ◌∙◌, ap, sym}
+use Rattle.std.proofs.Common.{◌∙◌, ap}
 use Rattle.term_table.specs.Terms.{term_at}
 use Rattle.text_types.specs.Stack.{alias_terms, first_number}
 use Rattle.text_types.proofs.AliasLaws.{first_is}

@@ -1,4 +1,4 @@
-use Rattle.std.proofs.Common.{◌≡◌, ◌≤◌, ℕ, length, drop, reverse}
+use Rattle.std.proofs.Common.{◌≡◌, ◌≤◌, length, drop, reverse}
 use Rattle.term_table.specs.Terms.{Grows}
 use Rattle.text_types.specs.Items.{items, begun, place_next}
 use Rattle.text_types.specs.Stack.{Stands, alias_terms}

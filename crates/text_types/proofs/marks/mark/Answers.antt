@@ -1,4 +1,4 @@
-use Rattle.std.proofs.Common.{◌-◌, arith, sym, ◌∙◌, ap, reverse}
+use Rattle.std.proofs.Common.{◌-◌, arith, ◌∙◌, ap, reverse}
 use Rattle.text_grammar.specs.declared.places.Place.TheVariants as places
 use Rattle.text_events.specs.declared.event.Event.{Event}
 use Rattle.text_types.specs.Marks.{first_or_false}

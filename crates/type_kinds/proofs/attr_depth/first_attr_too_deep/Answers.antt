@@ -1,9 +1,9 @@
-use Rattle.std.proofs.Common.{◌+◌, length, drop, get_or, ap, arith, sym, ◌∙◌, rules, max}
+use Rattle.std.proofs.Common.{◌+◌, drop, get_or, ap, arith, ◌∙◌, rules}
 use Rattle.text_grammar.specs.declared.places.Place.TheVariants as places
 use Rattle.text_events.specs.declared.event.Event.{Event}
 use Rattle.text_types.specs.Items.{place_next}
 use Rattle.type_kinds.specs.Begins.{begin_at}
-use Rattle.type_kinds.specs.Sizes.{sizes_of, size_in, moved}
+use Rattle.type_kinds.specs.Sizes.{sizes_of, moved}
 use Rattle.type_kinds.specs.Depths.{attr_depth, first_deep_attr}
 use Rattle.type_kinds.proofs.DepthLaws.{attr_step}
 use Rattle.type_kinds.proofs.attr_depth.first_attr_too_deep.Goals as goal

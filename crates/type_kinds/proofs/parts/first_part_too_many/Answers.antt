@@ -1,9 +1,9 @@
-use Rattle.std.proofs.Common.{◌+◌, drop, get_or, ap, arith, sym, ◌∙◌}
+use Rattle.std.proofs.Common.{◌+◌, drop, get_or, ap, arith, ◌∙◌}
 use Rattle.text_grammar.specs.declared.places.Place.TheVariants as places
 use Rattle.text_events.specs.declared.event.Event.{Event}
 use Rattle.text_types.specs.Items.{place_next}
 use Rattle.type_kinds.specs.Begins.{begin_at}
-use Rattle.type_kinds.specs.Sizes.{sizes_of, size_in}
+use Rattle.type_kinds.specs.Sizes.{sizes_of}
 use Rattle.type_kinds.specs.Parts.{parts_of, first_part}
 use Rattle.type_kinds.proofs.PartLaws.{count_step}
 use Rattle.type_kinds.proofs.parts.first_part_too_many.Goals as goal

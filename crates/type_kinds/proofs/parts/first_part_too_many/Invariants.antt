@@ -1,7 +1,7 @@
 use Rattle.std.proofs.Common.{◌≡◌, ◌≤◌, drop}
 use Rattle.type_kinds.specs.First.{first_in}
 use Rattle.type_kinds.specs.Sizes.{sizes_of}
-use Rattle.type_kinds.specs.Parts.{Counted, count, too_many, first_part}
+use Rattle.type_kinds.specs.Parts.{count, too_many, first_part}
 use Rattle.type_kinds.proofs.FirstIn.{ahead}
 use Rattle.type_kinds.proofs.parts.first_part_too_many.Given as goal
 

@@ -1,4 +1,4 @@
-use Rattle.std.proofs.Common.{◌≡◌, ◌+◌, ◌≤◌, length}
+use Rattle.std.proofs.Common.{◌≡◌, ◌+◌, ◌≤◌}
 use Rattle.term_table.specs.Terms.{term_at}
 use Rattle.type_kinds.specs.Counts.{count_types}
 use Rattle.type_kinds.proofs.type_count.count_types.Given as goal

@@ -1,4 +1,4 @@
-use Rattle.std.proofs.Common.{ℕ, ◌≤◌, Bool, get_or, length, ap, subst, sym, ◌∙◌, reverse}
+use Rattle.std.proofs.Common.{ℕ, ◌≤◌, get_or, length, ap, subst, sym, ◌∙◌, reverse}
 use Rattle.std.specs.Prelude.{◌&&◌}
 use Rattle.text_grammar.specs.declared.places.Place.TheVariants as places
 use Rattle.text_events.specs.declared.event.Event.{Event}

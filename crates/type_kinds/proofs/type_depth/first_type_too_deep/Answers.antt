@@ -1,11 +1,10 @@
-use Rattle.std.proofs.Common.{◌≡◌, ◌+◌, vec_len, length, drop, get_or, ap, arith, sym, ◌∙◌, reverse, rules, max}
-use Rattle.std.specs.Prelude.{Bool}
+use Rattle.std.proofs.Common.{◌≡◌, ◌+◌, vec_len, length, drop, get_or, ap, sym, ◌∙◌, reverse, rules}
 use Rattle.std.proofs.lemmas.List.{length-reverse}
 use Rattle.text_grammar.specs.declared.places.Place.TheVariants as places
 use Rattle.text_events.specs.declared.event.Event.{Event}
 use Rattle.text_types.specs.Items.{place_next}
 use Rattle.type_kinds.specs.Begins.{begin_at}
-use Rattle.type_kinds.specs.Sizes.{sizes_of, size_in, moved}
+use Rattle.type_kinds.specs.Sizes.{sizes_of, moved}
 use Rattle.type_kinds.specs.Depths.{type_depth, first_deep_type}
 use Rattle.type_kinds.proofs.DepthLaws.{type_step}
 use Rattle.type_kinds.proofs.type_depth.first_type_too_deep.Goals as goal
