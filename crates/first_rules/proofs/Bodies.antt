@@ -1,10 +1,9 @@
 -- The body of a first function: its values, its uses, and what is defined on the way.
-use Rattle.std.proofs.Common.{◌≡◌, ℕ, zero, suc, ◌+◌, ◌<◌, ◌≤◌, ◌==◌, Bool, true, false, List, [], ◌∷◌, ◌++◌, Option, Some, None, refl, sym, ap, ◌∙◌, subst, inl, inr, length, map, true≢false, arith}
+use Rattle.std.proofs.Common.{◌≡◌, ℕ, ◌+◌, ◌<◌, ◌≤◌, ◌==◌, Bool, true, false, List, [], ◌∷◌, ◌++◌, Some, refl, sym, ap, ◌∙◌, subst, inl, inr, length, true≢false, arith}
 use Rattle.std.specs.Prelude.{◌||◌, ◌⊎◌, ⊤, codes, if◌then◌else◌}
 use Rattle.std.proofs.lemmas.Bool.{cases_order, eqb-true, eq-eqb}
 use Rattle.std.proofs.Math.Nat.{eq-or-lt_of_le}
-use Rattle.plain_tree.specs.Types.{PlainType}
-use Rattle.plain_tree.specs.Ops.{Op, Ops, Blocks, Values}
+use Rattle.plain_tree.specs.Ops.{Op, Ops, Blocks}
 use Rattle.plain_tree.specs.Values.{ops_values, type_in, types_of}
 use Rattle.rule_model.specs.Words.{binds, binds_in_ops, has, numbers, results_of}
 use Rattle.rule_model.specs.Facts.{last_in, last_name}

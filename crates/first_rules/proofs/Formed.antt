@@ -1,8 +1,7 @@
 -- The module of first functions is formed.
-use Rattle.std.proofs.Common.{◌≡◌, ℕ, ◌+◌, ◌<◌, Bool, true, false, List, [], ◌∷◌, ◌++◌, refl, sym, ap, ◌∙◌, subst, length, map, arith}
+use Rattle.std.proofs.Common.{◌≡◌, ℕ, ◌+◌, ◌<◌, Bool, true, false, List, [], ◌∷◌, ◌++◌, refl, ap, ◌∙◌, length, map, arith}
 use Rattle.std.specs.Prelude.{◌&&◌}
 use Rattle.std.specs.List.{list_all}
-use Rattle.plain_tree.specs.Ops.{Values}
 use Rattle.plain_tree.specs.Values.{ops_values}
 use Rattle.rule_model.specs.Words.{has, numbers}
 use Rattle.rule_model.specs.Formed.{are_formed_ops, are_once, is_formed, is_formed_function, ops_labels}

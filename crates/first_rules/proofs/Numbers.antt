@@ -1,17 +1,17 @@
 -- Values that are numbered one after another.
-use Rattle.std.proofs.Common.{◌≡◌, ℕ, zero, suc, ◌+◌, ◌<◌, ◌≤◌, ◌==◌, Bool, true, false, List, [], ◌∷◌, ◌++◌, refl, sym, ap, ◌∙◌, subst, inl, inr, length, replicate, true≢false, arith}
+use Rattle.std.proofs.Common.{◌≡◌, ℕ, zero, suc, ◌+◌, ◌<◌, ◌≤◌, ◌==◌, Bool, true, false, ◌∷◌, ◌++◌, refl, sym, ap, ◌∙◌, inl, inr, replicate, true≢false, arith}
 use Rattle.std.specs.Prelude.{◌||◌, ◌&&◌, ◌⊎◌, not, if◌then◌else◌}
 use Rattle.std.specs.List.{list_all}
 use Rattle.std.proofs.lemmas.Bool.{eqb-true, eq-eqb}
 use Rattle.std.proofs.Math.Nat.{eq-or-lt_of_le}
-use Rattle.plain_tree.specs.Types.{PlainType, Int, types_in, types_of}
+use Rattle.plain_tree.specs.Types.{types_in, types_of}
 use Rattle.plain_tree.specs.ValueTypes.{is_value}
 use Rattle.plain_tree.specs.Ops.{Values}
 use Rattle.plain_tree.specs.Values.{type_in}
 use Rattle.rule_model.specs.Words.{has, numbers, types}
 use Rattle.rule_model.specs.Forms.{same_all}
 use Rattle.rule_model.specs.Formed.{are_formed_types, are_formed_values, are_once}
-use Rattle.rule_model.proofs.Numbers.{itself, or_right}
+use Rattle.rule_model.proofs.Numbers.{or_right}
 use Rattle.first_rules.specs.Plain.{i32, values_from}
 
 pub differs : (m n : ℕ) → (m ≡ n → ⊥) → (m == n) ≡ false

@@ -1,17 +1,15 @@
 -- The module that a first text denotes has its plain form.
 use Rattle.std.proofs.Common.{◌≡◌, ℕ, zero, suc, ◌+◌, Bool, true, false, List, [], ◌∷◌, ◌++◌, refl, sym, ap, ◌∙◌, subst, length, map, replicate}
-use Rattle.std.specs.Prelude.{◌&&◌, codes}
+use Rattle.std.specs.Prelude.{codes}
 use Rattle.std.proofs.lemmas.List.{length_push}
 use Rattle.tree_model.specs.declared.type_tree.TypeTree.{TypeTree}
 use Rattle.tree_model.specs.declared.attr_tree.AttrTree.{AttrTree}
 use Rattle.tree_model.specs.declared.attr_tree.AttrTree as attr
 use Rattle.tree_model.specs.declared.type_tree.TypeTree as type
-use Rattle.tree_model.specs.declared.op_tree.OpTree.{OpTree}
-use Rattle.tree_model.specs.declared.op_tree.ModuleTree.{ModuleTree}
 use Rattle.tree_model.specs.Makers as makers
-use Rattle.plain_tree.specs.Types.{PlainType, PlainTypes, Int, Func, types_in, plain_type, end_of_types, more_types}
-use Rattle.plain_tree.specs.Attrs.{Entries, PlainAttr, Number, Text, OfType, Dialect, plain_attr, plain_entries}
-use Rattle.plain_tree.specs.Ops.{Op, op, Ops, more_ops, end_of_ops, ops_in, region, end_of_regions, block, end_of_blocks, Blocks, PlainBlock, PlainModule, plain_func, plain_module, plain_op, plain_values, Values}
+use Rattle.plain_tree.specs.Types.{PlainType, Int, Func, types_in, plain_type, end_of_types, more_types}
+use Rattle.plain_tree.specs.Attrs.{Entries, Number, OfType, plain_attr, plain_entries}
+use Rattle.plain_tree.specs.Ops.{Op, op, more_ops, end_of_ops, ops_in, region, end_of_regions, block, end_of_blocks, Blocks, PlainBlock, PlainModule, plain_func, plain_module, plain_op, plain_values}
 use Rattle.plain_tree.proofs.TypeOpens as type_opens
 use Rattle.plain_tree.proofs.AttrOpens as attr_opens
 use Rattle.plain_tree.proofs.OpOpens.{block-roll, plain-roll, region-roll}
@@ -20,11 +18,10 @@ use Rattle.text_model.specs.declared.first.Maker.{Maker}
 use Rattle.text_model.specs.declared.first.Maker.TheVariants as maker
 use Rattle.text_model.specs.declared.first.Line.{Line}
 use Rattle.text_model.specs.declared.first.FirstFunc.{FirstFunc}
-use Rattle.text_model.specs.FirstNames.{bytes_of, decimal_value, flags_of, func_resolves, funcs_resolve, func_tree, i32, line_ops, maker_op, module_tree, name_of, names_stand, number_of, numbered, signature_props, signed}
-use Rattle.text_model.specs.FirstText.{IsFirstText}
+use Rattle.text_model.specs.FirstNames.{bytes_of, decimal_value, flags_of, func_resolves, funcs_resolve, func_tree, i32, line_ops, maker_op, name_of, number_of, numbered, signature_props, signed}
 use Rattle.rule_model.specs.Rules.{Verified}
 use Rattle.rule_model.proofs.Numbers.{and_first, and_second}
-use Rattle.first_rules.specs.Plain.{body, Constant, flags, FirstFunction, function_of, function_props, Made, making, module_of, returning, Sum, values_from}
+use Rattle.first_rules.specs.Plain.{body, flags, function_of, making, values_from}
 use Rattle.first_rules.specs.Promises.{FirstVerified}
 use Rattle.first_rules.proofs.Names.{answer_of, as_many, first_of, in_order, lines_of, made_of, named}
 use Rattle.first_rules.proofs.Verified.{plain_verified}

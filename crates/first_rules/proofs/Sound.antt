@@ -1,7 +1,7 @@
 -- No operation of a first function breaks a rule.
-use Rattle.std.proofs.Common.{◌≡◌, ℕ, suc, ◌+◌, ◌<◌, ◌==◌, Bool, true, false, List, [], ◌∷◌, ◌++◌, Option, Some, None, refl, sym, ap, ◌∙◌, subst, inl, inr, length, map, true≢false, arith}
-use Rattle.std.specs.Prelude.{◌||◌, ◌&&◌, ◌⊎◌, not, codes}
-use Rattle.std.specs.List.{list_all, list_any}
+use Rattle.std.proofs.Common.{◌≡◌, ℕ, ◌+◌, ◌<◌, ◌==◌, Bool, true, false, List, [], ◌∷◌, ◌++◌, Option, Some, None, refl, sym, ap, ◌∙◌, inl, inr, length, map, true≢false, arith}
+use Rattle.std.specs.Prelude.{◌||◌, ◌&&◌, not, codes}
+use Rattle.std.specs.List.{list_any}
 use Rattle.std.specs.Str.{bytes_eq}
 use Rattle.std.proofs.lemmas.Bool.{eq-eqb}
 use Rattle.plain_tree.specs.Types.{PlainType}
@@ -15,10 +15,10 @@ use Rattle.rule_model.specs.Facts.{declared, Facts, functions, Functions, Holder
 use Rattle.rule_model.specs.Symbols.{allocator_in, allocators, is_declared, is_named}
 use Rattle.rule_model.specs.Paths.{Undefined}
 use Rattle.rule_model.specs.Chains.{Chain}
-use Rattle.rule_model.specs.Sites.{Around, holds, ops_sites, Site, sites}
+use Rattle.rule_model.specs.Sites.{Around, ops_sites, Site}
 use Rattle.rule_model.specs.Rules.{Breaks, keeps, Sound, SoundFrom, SoundFunction}
 use Rattle.rule_model.proofs.Numbers.{or_right}
-use Rattle.first_rules.specs.Plain.{AreInOrder, AreMade, AreNamed, blocks_of, body, Constant, FirstFunction, flags, function_of, function_props, i32, Made, making, returning, Sum, values_from}
+use Rattle.first_rules.specs.Plain.{AreInOrder, AreMade, AreNamed, blocks_of, body, Constant, FirstFunction, flags, function_of, function_props, i32, Made, Sum, values_from}
 use Rattle.first_rules.proofs.Numbers.{below_or, in_values, inputs_are_values, types_same, values_of_i32}
 use Rattle.first_rules.proofs.Bodies.{all_bound, count_of, ends_by_return, no_own_use, types_are, use_behind}
 

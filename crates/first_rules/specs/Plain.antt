@@ -1,10 +1,10 @@
 -- The modules of first texts as plain trees, and when their names are in order.
-use Rattle.std.specs.Prelude.{◌≡◌, ℕ, zero, suc, ◌+◌, ◌<◌, Bool, true, false, List, [], ◌∷◌, ◌++◌, length, map, replicate, ℤ, codes, None, ⊤}
+use Rattle.std.specs.Prelude.{◌≡◌, ℕ, zero, suc, ◌+◌, ◌<◌, Bool, true, false, List, [], ◌∷◌, ◌++◌, map, replicate, ℤ, codes, None, ⊤}
 use Rattle.std.specs.List.{list_any}
 use Rattle.std.specs.Str.{bytes_eq}
 use Rattle.plain_tree.specs.Types.{PlainType, Int, Func, types_in}
 use Rattle.plain_tree.specs.Attrs.{Entries, Number, Text, OfType, Dialect}
-use Rattle.plain_tree.specs.Ops.{Op, op, Ops, end_of_ops, more_ops, Regions, end_of_regions, region, Blocks, end_of_blocks, block, PlainModule, Values}
+use Rattle.plain_tree.specs.Ops.{Op, op, Ops, end_of_ops, more_ops, end_of_regions, region, Blocks, end_of_blocks, block, PlainModule, Values}
 use Rattle.rule_model.specs.Formed.{is_signed}
 use Rattle.rule_model.specs.Symbols.{allocator_in, allocators}
 
