@@ -1,6 +1,6 @@
 -- Rows and conversions of trees that are the same but for numbers: R says which values go together, L which labels.
 pub use Rattle.plain_tree.specs.Renamings.{RenAll, none_all, more_all, RenValues, none_values, more_values, RenOp, ren_op, RenOps, ops_ended, ren_more, RenRegions, regions_ended, ren_region, RenBlocks, blocks_ended, ren_block, OneToOne, TypesAgree}
-use Rattle.std.specs.Prelude.{ℕ, ◌==◌, ◌≡◌, List, [], ◌∷◌, Option, Some, None, Result, Ok, Err}
+use Rattle.std.specs.Prelude.{ℕ, List, [], ◌∷◌, Option, Some, None, Result, Ok, Err}
 use Rattle.plain_tree.specs.Types.{PlainType}
 use Rattle.plain_tree.specs.Ops.{Op, Values}
 use Rattle.conversion_model.specs.Rows.{Piece, Product, Opens, Held, Stands, Numbers, Row, Straight, Cutting, Framing, Pattern}

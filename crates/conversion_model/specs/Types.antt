@@ -1,8 +1,8 @@
 -- The type table: what each type becomes on the way to the llvm dialect, where an index has so many bits.
-use Rattle.std.specs.Prelude.{ℕ, ◌==◌, Bool, true, false, ◌&&◌, List, [], ◌∷◌, ◌++◌, length, replicate, Option, Some, None, if◌then◌else◌}
+use Rattle.std.specs.Prelude.{ℕ, ◌==◌, List, [], ◌∷◌, ◌++◌, length, replicate, Option, Some, None, if◌then◌else◌}
 -- The own types, which the table maps to themselves, are the value types of the llvm dialect.
 pub use Rattle.plain_tree.specs.ValueTypes.{is_own, all_own}
-use Rattle.plain_tree.specs.Types.{PlainType, PlainTypes, Int, Index, Memref, Func, Ptr, Void, Struct, Array, LlvmFunc, end_of_types, more_types, types_in, types_of}
+use Rattle.plain_tree.specs.Types.{PlainType, Int, Index, Memref, Func, Ptr, Void, Struct, Array, LlvmFunc, types_in, types_of}
 
 -- what stands for `index`, and for each number of a memref
 abbrev pub number_type : ℕ → PlainType

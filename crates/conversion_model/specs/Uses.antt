@@ -2,7 +2,7 @@
 use Rattle.std.specs.Prelude.{ℕ, ◌+◌, ◌==◌, Bool, List, [], ◌∷◌, ◌++◌, map, if◌then◌else◌}
 use Rattle.std.specs.Str.{bytes_eq}
 pub use Rattle.plain_tree.specs.Values.{op_values, ops_values, regions_values, blocks_values, type_in, types_of}
-use Rattle.plain_tree.specs.Ops.{Op, op, Ops, end_of_ops, more_ops, Regions, end_of_regions, region, Blocks, end_of_blocks, block, Values}
+use Rattle.plain_tree.specs.Ops.{Op, op, Ops, end_of_ops, more_ops, Regions, end_of_regions, region, Blocks, end_of_blocks, block}
 use Rattle.conversion_model.specs.Templates.{copy_name}
 use Rattle.conversion_model.specs.Targets.{name_of}
 use Rattle.conversion_model.specs.Items.{op_size, ops_size, blocks_size}

@@ -1,5 +1,5 @@
 -- The table's names are the first of the known ones, in the same order.
-use Rattle.std.proofs.Common.{◌≡◌, ℕ, zero, suc, ◌+◌, ◌<◌, ◌≤◌, ◌≢◌, Bool, true, false, List, [], ◌∷◌, Option, Some, None, refl, sym, ap, ◌∙◌, subst, map, length, get_or, true≢false, arith}
+use Rattle.std.proofs.Common.{◌≡◌, ℕ, zero, suc, ◌+◌, ◌<◌, ◌≤◌, Bool, true, false, List, [], ◌∷◌, Option, Some, None, refl, sym, ap, ◌∙◌, map, length, get_or, true≢false, arith}
 use Rattle.std.specs.Prelude.{◌&&◌, if◌then◌else◌}
 use Rattle.std.specs.Option.{option_map}
 use Rattle.std.specs.Str.{bytes_eq}
@@ -12,7 +12,6 @@ use Rattle.rule_model.specs.declared.shapes.Shape.TheVariants.{Module}
 use Rattle.rule_model.specs.Rows.{place_in, Row, rows, shape_in}
 use Rattle.rule_model.proofs.Numbers.{and_first, and_second, some_same}
 use Rattle.op_catalog.specs.Table.{place_of, shape_at, shape_of}
-use Rattle.op_catalog.specs.declared.rows.TheConstants.{SHAPES}
 
 same_text : (xs ys : List ℕ) → bytes_eq xs ys ≡ true → xs ≡ ys
 same_text xs ys e = (bytes_eq-Decides xs ys).0 e

@@ -3,6 +3,8 @@
 
 mod properties;
 mod rows;
+#[cfg(test)]
+mod table;
 
 pub use properties::inherent;
 pub use rows::{RowId, is_terminator, row};

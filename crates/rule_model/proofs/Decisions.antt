@@ -9,7 +9,7 @@ use Rattle.rule_model.specs.Facts.{functions, Functions}
 use Rattle.rule_model.specs.Paths.{Either, Frame, Reach, Undefined}
 use Rattle.rule_model.specs.Chains.{Chain, op_used}
 use Rattle.rule_model.specs.Sites.{Site, sites}
-use Rattle.rule_model.specs.Rules.{Breaks, BreaksFirst, BrokenAt, BrokenFrom, BrokenIn, keeps, place, Sound, SoundFrom, SoundFunction}
+use Rattle.rule_model.specs.Rules.{Breaks, BreaksFirst, BrokenAt, BrokenFrom, keeps, place, Sound, SoundFrom, SoundFunction}
 use Rattle.rule_model.specs.Search.{all_rules, among_reached, AmongSites, Answer, answer, any_of, AtSite, behind_one, choose, first_function, FirstBroken, first_rule, first_site, if_apart, in_function, is_broken, is_reached, IsRight, is_undefined, NothingBroken, one_more, op_apart, Open, or_behind, or_else, or_later, or_next, SiteBreaks, SiteOpen, SitesBreak, SitesOpen, SitesSound, SiteSound}
 use Rattle.std.proofs.Math.Nat.{eq-or-lt_of_le}
 use Rattle.rule_model.proofs.Places.{InPlace, reaches, reaches_not}

@@ -1,14 +1,12 @@
 -- The first broken rule: there is at most one, and none exactly where no rule is broken.
-use Rattle.std.proofs.Common.{◌≡◌, ℕ, zero, suc, ◌+◌, ◌<◌, ◌≤◌, List, [], ◌∷◌, ◌++◌, refl, sym, ap, subst, inl, inr, arith}
-use Rattle.std.specs.Prelude.{◌⊎◌, ◌↔◌}
+use Rattle.std.proofs.Common.{◌≡◌, ℕ, zero, suc, ◌<◌, ◌≤◌, List, [], ◌∷◌, ◌++◌, refl, ap, subst, inl, inr, arith}
 use Rattle.std.proofs.Math.Nat.{eq-or-lt_of_le}
-use Rattle.plain_tree.specs.Ops.{Op, PlainModule}
+use Rattle.plain_tree.specs.Ops.{Op}
 use Rattle.rule_model.specs.declared.rules.Rule.{Rule}
 use Rattle.rule_model.specs.Words.{AllOf}
 use Rattle.rule_model.specs.Facts.{functions, Functions}
 use Rattle.rule_model.specs.Sites.{Site, sites}
-use Rattle.rule_model.specs.Formed.{Formed}
-use Rattle.rule_model.specs.Rules.{Breaks, BreaksFirst, Broken, BrokenAt, BrokenFrom, BrokenIn, place, Sound, SoundFrom, SoundFunction, Verified}
+use Rattle.rule_model.specs.Rules.{BreaksFirst, BrokenAt, BrokenFrom, place, Sound, SoundFrom, SoundFunction}
 use Rattle.rule_model.specs.Promises.{NothingIsBroken, OneAnswer}
 use Rattle.rule_model.proofs.Decisions.{all_below, NoneBelow, none_below, one_rule}
 use Rattle.std.proofs.lemmas.Bool.{cases_order}

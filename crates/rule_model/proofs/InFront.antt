@@ -1,11 +1,11 @@
 -- In a block that is reached, a use in front of its definition isn't defined.
-use Rattle.std.proofs.Common.{◌≡◌, ℕ, ◌==◌, Bool, true, false, List, [], ◌∷◌, ◌++◌, Option, Some, None, refl, sym, ap, ◌∙◌, subst, inl, inr, true≢false}
+use Rattle.std.proofs.Common.{◌≡◌, ℕ, ◌==◌, Bool, true, false, List, [], ◌∷◌, ◌++◌, Some, refl, sym, ap, ◌∙◌, subst, inl, inr, true≢false}
 use Rattle.std.specs.Prelude.{◌||◌, ◌⊎◌, if◌then◌else◌}
 use Rattle.std.proofs.lemmas.Option.{none-some}
 use Rattle.std.proofs.lemmas.Bool.{eqb-true}
-use Rattle.plain_tree.specs.Ops.{Op, Ops, end_of_ops, more_ops, Blocks, end_of_blocks, block, PlainBlock}
+use Rattle.plain_tree.specs.Ops.{Ops, end_of_ops, more_ops, Blocks, end_of_blocks, block, PlainBlock}
 use Rattle.rule_model.specs.Words.{binds, binds_in_ops, block_of, has, numbers, results_of, successors_of}
-use Rattle.rule_model.specs.Paths.{at_start, begins, Either, ends, enters, exits, follows, Frame, jumps, one_on, Passed, passes, Reach, Visits}
+use Rattle.rule_model.specs.Paths.{at_start, begins, Either, ends, enters, exits, follows, jumps, one_on, Passed, passes, Reach, Visits}
 use Rattle.rule_model.specs.Promises.{OnlyIn, UseInFront}
 use Rattle.rule_model.proofs.Numbers.{or_first, or_right, or_second, some_same}
 use Rattle.rule_model.proofs.Places.{Arrives, first_found}

@@ -1,5 +1,5 @@
 -- Each operation of a function is where its frames say, where labels of a region stand once.
-use Rattle.std.proofs.Common.{◌≡◌, ℕ, ◌+◌, ◌==◌, Bool, true, false, List, [], ◌∷◌, ◌++◌, Option, Some, None, refl, sym, ap, ◌∙◌, subst, true≢false}
+use Rattle.std.proofs.Common.{◌≡◌, ℕ, ◌+◌, ◌==◌, Bool, true, false, List, [], ◌++◌, Option, Some, None, refl, sym, ap, ◌∙◌, true≢false}
 use Rattle.std.specs.Prelude.{◌||◌, if◌then◌else◌}
 use Rattle.std.proofs.lemmas.Option.{none-some}
 use Rattle.std.proofs.lemmas.Bool.{eqb-true}
@@ -12,7 +12,7 @@ use Rattle.rule_model.specs.Paths.{Frame}
 use Rattle.rule_model.specs.Sites.{Site, Around, holds, frame_of, op_sites, ops_sites, regions_sites, blocks_sites, sites}
 use Rattle.rule_model.specs.Formed.{own_labels}
 use Rattle.rule_model.specs.Search.{op_apart, ops_apart, regions_apart, blocks_apart}
-use Rattle.rule_model.proofs.Numbers.{itself, or_right, and_first, and_second, not_true}
+use Rattle.rule_model.proofs.Numbers.{itself, and_first, and_second, not_true}
 use Rattle.rule_model.proofs.Places.{Along, at_start, one_on, InPlace}
 
 abbrev pub Placed : Site → Type 0

@@ -10,9 +10,11 @@ pub mod RenamedPaths
 pub mod RenamedFormed
 pub mod RenamedModules
 pub mod InFront
+pub mod ScopeLaws
 pub mod Trees
 mod OperandExamples
 mod PartExamples
 mod ControlExamples
 mod SymbolExamples
 mod PathExamples
+mod FormedExamples

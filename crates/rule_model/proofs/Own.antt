@@ -1,5 +1,5 @@
 -- The search decides whether a value uses itself.
-use Rattle.std.proofs.Common.{◌≡◌, ℕ, Bool, true, false, List, Option, Some, refl, sym, ◌∙◌, true≢false}
+use Rattle.std.proofs.Common.{◌≡◌, ℕ, Bool, true, false, List, Option, Some, sym, ◌∙◌, true≢false}
 use Rattle.plain_tree.specs.Ops.{Op}
 use Rattle.rule_model.specs.Words.{has}
 use Rattle.rule_model.specs.Chains.{Chain, uses, by_way_of, op_used}

@@ -1,13 +1,13 @@
 -- The search decides which places a path reaches.
-use Rattle.std.proofs.Common.{◌≡◌, ℕ, suc, ◌+◌, ◌≤◌, ◌==◌, Bool, true, false, List, [], ◌∷◌, ◌++◌, Option, Some, None, refl, sym, ap, ◌∙◌, subst, true≢false, arith}
+use Rattle.std.proofs.Common.{◌≡◌, ℕ, ◌+◌, ◌≤◌, ◌==◌, Bool, true, false, List, [], ◌∷◌, ◌++◌, Option, Some, None, refl, sym, ap, ◌∙◌, subst, true≢false, arith}
 use Rattle.std.specs.Prelude.{◌&&◌, ◌||◌, not, if◌then◌else◌}
 use Rattle.std.proofs.lemmas.Option.{none-some}
 use Rattle.std.proofs.lemmas.Bool.{eqb-true, eq-eqb}
-use Rattle.plain_tree.specs.Ops.{Op, Ops, end_of_ops, more_ops, Blocks, end_of_blocks, block, PlainBlock, Values}
+use Rattle.plain_tree.specs.Ops.{Op, Ops, end_of_ops, more_ops, Blocks, end_of_blocks, block, PlainBlock}
 use Rattle.rule_model.specs.Words.{has, AllOf, numbers, results_of, successors_of, first_block, block_of, count_of}
 use Rattle.rule_model.specs.Paths.{ends, Reach, enters, passes, jumps, Frame}
 use Rattle.rule_model.specs.Search.{among_reached, leaves, leaves_block, is_open, open_of, nexts, entry_of, stop, is_ahead, and_is, is_reached}
-use Rattle.rule_model.proofs.Numbers.{some_same, itself, or_right, or_first, or_second, and_first, and_second, not_true, all_of, only_one}
+use Rattle.rule_model.proofs.Numbers.{some_same, itself, or_right, and_first, and_second, not_true, only_one}
 use Rattle.rule_model.proofs.Reached.{Closed, set_of}
 use Rattle.rule_model.proofs.Reached as reached
 

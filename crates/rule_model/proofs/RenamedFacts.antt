@@ -1,17 +1,13 @@
 -- Renaming: the facts of operations are the same.
-use Rattle.std.proofs.Common.{◌≡◌, ℕ, ◌+◌, ◌==◌, Bool, true, false, List, [], ◌∷◌, ◌++◌, Option, Some, None, refl, sym, ap, ◌∙◌, subst, map, true≢false}
-use Rattle.std.specs.Prelude.{◌||◌, ◌&&◌, not, if◌then◌else◌}
+use Rattle.std.proofs.Common.{◌≡◌, ℕ, ◌==◌, Bool, true, false, List, ◌∷◌, ◌++◌, Option, Some, None, refl, sym, ap, ◌∙◌, map, true≢false}
+use Rattle.std.specs.Prelude.{◌||◌, if◌then◌else◌}
 use Rattle.std.specs.Option.{option_map}
-use Rattle.std.proofs.lemmas.Option.{none-some}
-use Rattle.std.proofs.lemmas.Bool.{eqb-true}
 use Rattle.plain_tree.specs.Types.{PlainType}
-use Rattle.plain_tree.specs.Attrs.{Entries}
-use Rattle.plain_tree.specs.Ops.{Kind, Op, op, Ops, end_of_ops, more_ops, Regions, Blocks, end_of_blocks, block, PlainBlock, Values}
+use Rattle.plain_tree.specs.Ops.{Kind, Op, Ops, Regions, Blocks, PlainBlock, Values}
 use Rattle.plain_tree.specs.Values.{op_values, ops_values, regions_values, blocks_values, type_in, types_of}
 use Rattle.plain_tree.specs.Renamings.{RenAll, none_all, more_all, RenValues, none_values, more_values, RenOp, ren_op, RenOps, ops_ended, ren_more, RenRegions, regions_ended, ren_region, RenBlocks, blocks_ended, ren_block, OneToOne, TypesAgree}
 use Rattle.rule_model.specs.Words.{has, numbers, types, name_of, results_of, successors_of, first_block, block_of, is_first, binds_in_ops, binds}
 use Rattle.rule_model.specs.Facts.{Facts, facts_of, Head, heads, Holder, is_end, last_in, last_name, regions_heads, Target, target}
-use Rattle.rule_model.proofs.Numbers.{itself, some_same}
 
 -- Values and numbers
 

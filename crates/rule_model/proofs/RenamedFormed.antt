@@ -1,12 +1,10 @@
 -- Renaming: a formed function stays formed.
-use Rattle.std.proofs.Common.{◌≡◌, ℕ, ◌==◌, Bool, true, false, List, [], ◌∷◌, ◌++◌, refl, sym, ap, ◌∙◌}
-use Rattle.std.specs.Prelude.{◌&&◌, ◌||◌, not}
+use Rattle.std.proofs.Common.{◌≡◌, ℕ, Bool, List, refl, ap, ◌∙◌}
+use Rattle.std.specs.Prelude.{◌&&◌, not}
 use Rattle.std.specs.List.{list_all}
-use Rattle.plain_tree.specs.Types.{PlainType}
-use Rattle.plain_tree.specs.Ops.{Kind, Op, op, Ops, Regions, Blocks, block, Values}
-use Rattle.plain_tree.specs.Values.{op_values}
+use Rattle.plain_tree.specs.Ops.{Kind, Op, Ops, Regions, Blocks, Values}
 use Rattle.plain_tree.specs.Renamings.{RenAll, none_all, more_all, RenValues, none_values, more_values, RenOp, ren_op, RenOps, ops_ended, ren_more, RenRegions, regions_ended, ren_region, RenBlocks, blocks_ended, ren_block, OneToOne}
-use Rattle.rule_model.specs.Words.{has, numbers}
+use Rattle.rule_model.specs.Words.{has}
 use Rattle.rule_model.specs.Formed.{are_formed_blocks, are_formed_entries, are_formed_ops, are_formed_regions, are_formed_values, are_once, blocks_labels, is_formed_function, is_formed_here, is_formed_op, is_formed_type, is_function_name, is_inner_name, op_labels, ops_labels, own_labels, regions_labels}
 use Rattle.rule_model.proofs.RenamedFacts.{all_joined, has_same, numbers_ren, op_values_ren}
 

@@ -1,24 +1,22 @@
 -- Renaming: what is verified stays so.
-use Rattle.std.proofs.Common.{◌≡◌, ℕ, ◌+◌, ◌==◌, Bool, true, false, List, [], ◌∷◌, ◌++◌, Option, Some, None, refl, sym, ap, ◌∙◌, subst, map}
+use Rattle.std.proofs.Common.{◌≡◌, ℕ, ◌+◌, ◌==◌, List, [], ◌∷◌, ◌++◌, Option, Some, refl, sym, ap, ◌∙◌, subst, map}
 use Rattle.std.specs.Prelude.{◌&&◌}
 use Rattle.std.specs.List.{list_all}
 use Rattle.plain_tree.specs.Types.{PlainType}
-use Rattle.plain_tree.specs.Attrs.{Entries}
-use Rattle.plain_tree.specs.Ops.{Kind, Op, op, Ops, end_of_ops, more_ops, Regions, Blocks, end_of_blocks, PlainModule, Values}
-use Rattle.plain_tree.specs.Values.{types_of}
-use Rattle.plain_tree.specs.Renamings.{RenAll, none_all, more_all, RenValues, RenOp, ren_op, RenOps, ops_ended, ren_more, RenRegions, regions_ended, ren_region, RenBlocks, blocks_ended, ren_block, OneToOne, TypesAgree}
+use Rattle.plain_tree.specs.Ops.{Kind, Op, Ops, Regions, Blocks, PlainModule}
+use Rattle.plain_tree.specs.Renamings.{RenAll, none_all, more_all, RenOp, ren_op, RenOps, ops_ended, ren_more, RenRegions, regions_ended, ren_region, RenBlocks, blocks_ended, ren_block, OneToOne, TypesAgree}
 use Rattle.rule_model.specs.declared.rules.Rule.{Rule}
 use Rattle.rule_model.specs.declared.rules.Rule.TheVariants as rule
-use Rattle.rule_model.specs.Words.{AllOf, numbers, results_of, types}
-use Rattle.rule_model.specs.Facts.{Declared, declared, Facts, functions, Functions, Holder}
+use Rattle.rule_model.specs.Words.{AllOf, types}
+use Rattle.rule_model.specs.Facts.{Declared, declared, functions, Functions, Holder}
 use Rattle.rule_model.specs.Paths.{Frame, Undefined}
 use Rattle.rule_model.specs.Chains.{Chain}
-use Rattle.rule_model.specs.Sites.{Around, blocks_sites, frame_of, holds, op_sites, ops_sites, regions_sites, Site, sites}
-use Rattle.rule_model.specs.Formed.{are_formed_entries, Formed, is_formed, is_formed_function}
+use Rattle.rule_model.specs.Sites.{Around, blocks_sites, holds, op_sites, ops_sites, regions_sites, Site, sites}
+use Rattle.rule_model.specs.Formed.{are_formed_entries, is_formed, is_formed_function}
 use Rattle.rule_model.specs.Rules.{Breaks, keeps, Sound, SoundFrom, SoundFunction, Verified}
-use Rattle.rule_model.specs.Promises.{IsOneToOne, Maps, Mapped, no_mapped, more_mapped, MappedModule, VerifiedRenames}
+use Rattle.rule_model.specs.Promises.{IsOneToOne, Maps, Mapped, no_mapped, more_mapped, VerifiedRenames}
 use Rattle.rule_model.proofs.RenamedFacts.{all_joined, facts_same, numbers_ren, results_ren, types_agree, types_same}
-use Rattle.rule_model.proofs.RenamedPaths.{any_back, more_frames, no_frames, own_back, RenFrame, RenFrames, undefined_back}
+use Rattle.rule_model.proofs.RenamedPaths.{any_back, more_frames, no_frames, own_back, RenFrames, undefined_back}
 use Rattle.rule_model.proofs.RenamedFormed.{function_same}
 
 -- functions in order that are the same but for numbers of values and labels, one-to-one in each

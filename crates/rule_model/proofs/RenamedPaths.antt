@@ -1,11 +1,11 @@
 -- Renaming: paths and chains go back to paths and chains of the tree before.
-use Rattle.std.proofs.Common.{◌≡◌, ℕ, ◌+◌, ◌==◌, Bool, true, false, List, [], ◌∷◌, ◌++◌, Option, Some, None, refl, sym, ap, ◌∙◌, subst, inl, inr, true≢false}
-use Rattle.std.specs.Prelude.{◌||◌, ◌⊎◌, if◌then◌else◌}
+use Rattle.std.proofs.Common.{◌≡◌, ℕ, ◌==◌, Bool, true, false, List, [], ◌∷◌, ◌++◌, Option, Some, refl, sym, ap, ◌∙◌, subst, inl, inr, true≢false}
+use Rattle.std.specs.Prelude.{◌||◌, if◌then◌else◌}
 use Rattle.std.proofs.lemmas.Option.{none-some}
 use Rattle.std.proofs.lemmas.Bool.{eqb-true}
 use Rattle.plain_tree.specs.Ops.{Op, op, Ops, more_ops, Regions, region, Blocks, block, PlainBlock, Values}
 use Rattle.plain_tree.specs.Renamings.{RenAll, none_all, more_all, RenValues, none_values, more_values, RenOp, ren_op, RenOps, ops_ended, ren_more, RenRegions, regions_ended, ren_region, RenBlocks, blocks_ended, ren_block, OneToOne}
-use Rattle.rule_model.specs.Words.{has, numbers, results_of, successors_of, first_block, block_of, binds, AnyOf}
+use Rattle.rule_model.specs.Words.{has, numbers, results_of, successors_of, block_of, binds, AnyOf}
 use Rattle.rule_model.specs.Rows.{is_terminator}
 use Rattle.rule_model.specs.Paths.{Either, ends, Frame, Reach, enters, passes, jumps, Undefined}
 use Rattle.rule_model.specs.Chains.{Chain, uses, by_way_of, op_operands, ops_operands, regions_operands, blocks_operands, op_used, ops_used, regions_used, blocks_used}

@@ -20,7 +20,10 @@ llvm_function_of_void : answer (module_of (llvm_func (codes "f") (Void ∷ []) V
 llvm_function_of_void = refl
 
 -- a return gives the results of its function
-returns_nothing : answer (module_of (func (codes "f") [] (Int 32 ∷ []) (one_block 0 [] (plain (codes "func.return") [] [] [] ∷ [])) ∷ [])) ≡ FirstBroken 0 1 rule.Signature
+returns_nothing :
+    answer (module_of (func (codes "f") [] (Int 32 ∷ [])
+    (one_block 0 [] (plain (codes "func.return") [] [] [] ∷ [])) ∷ []))
+    ≡ FirstBroken 0 1 rule.Signature
 returns_nothing = refl
 
 -- none for void
@@ -31,25 +34,49 @@ llvm_returns_nothing = refl
 name_twice : answer (module_of (func (codes "f") [] [] end_of_blocks ∷ llvm_func (codes "f") [] Void end_of_blocks ∷ [])) ≡ FirstBroken 1 0 rule.Symbol
 name_twice = refl
 
-callee_not_there : answer (module_of (func (codes "f") [] [] (one_block 0 [] (plain (codes "func.call") [] [] ((codes "callee", Symbol (codes "g")) ∷ []) ∷ plain (codes "func.return") [] [] [] ∷ [])) ∷ [])) ≡ FirstBroken 0 1 rule.Symbol
+callee_not_there :
+    answer (module_of (func (codes "f") [] []
+    (one_block 0 [] (plain (codes "func.call") [] [] ((codes "callee", Symbol (codes "g")) ∷ []) ∷ plain (codes "func.return") [] [] [] ∷ [])) ∷ []))
+    ≡ FirstBroken 0 1 rule.Symbol
 callee_not_there = refl
 
-callee_of_the_other_kind : answer (module_of (func (codes "f") [] [] (one_block 0 [] (plain (codes "func.call") [] [] ((codes "callee", Symbol (codes "g")) ∷ []) ∷ plain (codes "func.return") [] [] [] ∷ [])) ∷ llvm_func (codes "g") [] Void end_of_blocks ∷ [])) ≡ FirstBroken 0 1 rule.Symbol
+callee_of_the_other_kind :
+    answer (module_of (func (codes "f") [] []
+    (one_block 0 [] (plain (codes "func.call") [] [] ((codes "callee", Symbol (codes "g")) ∷ []) ∷ plain (codes "func.return") [] [] [] ∷ []))
+    ∷ llvm_func (codes "g") [] Void end_of_blocks ∷ []))
+    ≡ FirstBroken 0 1 rule.Symbol
 callee_of_the_other_kind = refl
 
-callee_of_another_type : answer (module_of (func (codes "f") [] [] (one_block 0 [] (plain (codes "func.call") [] [] ((codes "callee", Symbol (codes "g")) ∷ []) ∷ plain (codes "func.return") [] [] [] ∷ [])) ∷ func (codes "g") [] (Int 32 ∷ []) end_of_blocks ∷ [])) ≡ FirstBroken 0 1 rule.Symbol
+callee_of_another_type :
+    answer (module_of (func (codes "f") [] []
+    (one_block 0 [] (plain (codes "func.call") [] [] ((codes "callee", Symbol (codes "g")) ∷ []) ∷ plain (codes "func.return") [] [] [] ∷ []))
+    ∷ func (codes "g") [] (Int 32 ∷ []) end_of_blocks ∷ []))
+    ≡ FirstBroken 0 1 rule.Symbol
 callee_of_another_type = refl
 
 -- the callee is the first function of the name
-callee_is_the_first_of_its_name : answer (module_of (func (codes "f") [] [] (one_block 0 [] (plain (codes "func.call") [] [] ((codes "callee", Symbol (codes "g")) ∷ []) ∷ plain (codes "func.return") [] [] [] ∷ [])) ∷ func (codes "g") [] [] end_of_blocks ∷ func (codes "g") [] (Int 32 ∷ []) end_of_blocks ∷ [])) ≡ FirstBroken 2 0 rule.Symbol
+callee_is_the_first_of_its_name :
+    answer (module_of (func (codes "f") [] []
+    (one_block 0 [] (plain (codes "func.call") [] [] ((codes "callee", Symbol (codes "g")) ∷ []) ∷ plain (codes "func.return") [] [] [] ∷ []))
+    ∷ func (codes "g") [] [] end_of_blocks
+    ∷ func (codes "g") [] (Int 32 ∷ []) end_of_blocks ∷ []))
+    ≡ FirstBroken 2 0 rule.Symbol
 callee_is_the_first_of_its_name = refl
 
 -- a callee without a type has another type
-callee_without_a_type : answer (module_of (func (codes "f") [] [] (one_block 0 [] (plain (codes "func.call") [] [] ((codes "callee", Symbol (codes "g")) ∷ []) ∷ plain (codes "func.return") [] [] [] ∷ [])) ∷ holds (codes "func.func") [] [] ((codes "sym_name", Text (codes "g")) ∷ []) (region end_of_blocks end_of_regions) ∷ [])) ≡ FirstBroken 0 1 rule.Symbol
+callee_without_a_type :
+    answer (module_of (func (codes "f") [] []
+    (one_block 0 [] (plain (codes "func.call") [] [] ((codes "callee", Symbol (codes "g")) ∷ []) ∷ plain (codes "func.return") [] [] [] ∷ []))
+    ∷ holds (codes "func.func") [] [] ((codes "sym_name", Text (codes "g")) ∷ [])
+    (region end_of_blocks end_of_regions) ∷ []))
+    ≡ FirstBroken 0 1 rule.Symbol
 callee_without_a_type = refl
 
 -- an llvm.call has one result at most
-llvm_call_with_two_results : answer (module_of (llvm_func (codes "f") [] Void (one_block 0 [] (plain (codes "llvm.call") ((0, Int 32) ∷ (1, Int 32) ∷ []) [] ((codes "callee", Symbol (codes "f")) ∷ []) ∷ plain (codes "llvm.return") [] [] [] ∷ [])) ∷ [])) ≡ FirstBroken 0 1 rule.Symbol
+llvm_call_with_two_results :
+    answer (module_of (llvm_func (codes "f") [] Void
+    (one_block 0 [] (plain (codes "llvm.call") ((0, Int 32) ∷ (1, Int 32) ∷ []) [] ((codes "callee", Symbol (codes "f")) ∷ []) ∷ plain (codes "llvm.return") [] [] [] ∷ [])) ∷ []))
+    ≡ FirstBroken 0 1 rule.Symbol
 llvm_call_with_two_results = refl
 
 -- a function with the name of an allocator is its declaration
@@ -59,11 +86,19 @@ malloc_as_a_func = refl
 free_of_another_type : answer (module_of (llvm_func (codes "free") (Int 64 ∷ []) Void end_of_blocks ∷ [])) ≡ FirstBroken 0 0 rule.Reserved
 free_of_another_type = refl
 
-malloc_with_a_body : answer (module_of (llvm_func (codes "malloc") (Int 64 ∷ []) Ptr (one_block 0 ((0, Int 64) ∷ []) (plain (codes "t.x") [] [] [] ∷ [])) ∷ [])) ≡ FirstBroken 0 0 rule.Reserved
+malloc_with_a_body :
+    answer (module_of (llvm_func (codes "malloc") (Int 64 ∷ []) Ptr
+    (one_block 0 ((0, Int 64) ∷ []) (plain (codes "t.x") [] [] [] ∷ [])) ∷ []))
+    ≡ FirstBroken 0 0 rule.Reserved
 malloc_with_a_body = refl
 
 -- linkage and other properties may stand
-declarations : answer (module_of (llvm_func (codes "malloc") (Int 64 ∷ []) Ptr end_of_blocks ∷ holds (codes "llvm.func") [] [] ((codes "function_type", OfType (LlvmFunc Void (types_in (Ptr ∷ [])))) ∷ (codes "linkage", Dialect (codes "llvm.linkage") (codes "internal" ∷ [])) ∷ (codes "sym_name", Text (codes "free")) ∷ []) (region end_of_blocks end_of_regions) ∷ op (record { name = codes "llvm.func"; props = ((codes "function_type", OfType (LlvmFunc Ptr (types_in (Int 64 ∷ Int 64 ∷ [])))) ∷ (codes "sym_name", Text (codes "aligned_alloc")) ∷ []); attrs = ((codes "x", Number (pos 1) (Int 64)) ∷ []) }) [] [] (region end_of_blocks end_of_regions) [] ∷ [])) ≡ NothingBroken
+declarations :
+    answer (module_of (llvm_func (codes "malloc") (Int 64 ∷ []) Ptr end_of_blocks
+    ∷ holds (codes "llvm.func") [] [] ((codes "function_type", OfType (LlvmFunc Void (types_in (Ptr ∷ [])))) ∷ (codes "linkage", Dialect (codes "llvm.linkage") (codes "internal" ∷ [])) ∷ (codes "sym_name", Text (codes "free")) ∷ [])
+    (region end_of_blocks end_of_regions) ∷ op (record { name = codes "llvm.func"; props = ((codes "function_type", OfType (LlvmFunc Ptr (types_in (Int 64 ∷ Int 64 ∷ [])))) ∷ (codes "sym_name", Text (codes "aligned_alloc")) ∷ []); attrs = ((codes "x", Number (pos 1) (Int 64)) ∷ []) }) [] []
+    (region end_of_blocks end_of_regions) [] ∷ []))
+    ≡ NothingBroken
 declarations = refl
 
 -- a result of an unregistered operation that is no value type
@@ -71,7 +106,11 @@ result_that_is_no_value : in_body (plain (codes "t.f") ((8, Func (types_in []) (
 result_that_is_no_value = refl
 
 -- and an argument of any block right within it
-argument_that_is_no_value : in_body (holds (codes "t.r") [] [] [] (region (block 1 [] (ops_in (plain (codes "t.x") [] [] [] ∷ [])) (block 2 ((8, Struct (types_in (Index ∷ []))) ∷ []) (ops_in (plain (codes "t.x") [] [] [] ∷ [])) end_of_blocks)) end_of_regions) ∷ []) ≡ FirstBroken 0 1 rule.ValueType
+argument_that_is_no_value :
+    in_body (holds (codes "t.r") [] [] [] (region
+    (block 1 [] (ops_in (plain (codes "t.x") [] [] [] ∷ []))
+    (block 2 ((8, Struct (types_in (Index ∷ []))) ∷ []) (ops_in (plain (codes "t.x") [] [] [] ∷ [])) end_of_blocks)) end_of_regions) ∷ [])
+    ≡ FirstBroken 0 1 rule.ValueType
 argument_that_is_no_value = refl
 
 -- a cast takes and gives any number of values

@@ -1,9 +1,9 @@
 -- Rules `Successors` and `Terminator`: where blocks go on, and how they end.
-use Rattle.std.specs.Prelude.{ℕ, ◌+◌, ◌==◌, Bool, true, false, not, ◌&&◌, ◌||◌, List, [], ◌∷◌, length, take, drop, Option, Some, None, if◌then◌else◌}
+use Rattle.std.specs.Prelude.{ℕ, Bool, true, false, not, ◌&&◌, ◌||◌, List, [], ◌∷◌, take, drop, Option, Some, None, if◌then◌else◌}
 use Rattle.std.specs.List.{list_all}
 use Rattle.plain_tree.specs.Types.{PlainType}
 use Rattle.rule_model.specs.declared.shapes.Shape.{Shape}
-use Rattle.rule_model.specs.declared.shapes.Shape.TheVariants.{Module, Recast, FuncFunction, FuncCall, FuncReturn, NumberConstant, FlaggedNumbers, TwoNumbers, CompareNumbers, SelectValues, Widen, NarrowNumber, IndexCast, Branch, BranchOn, If, For, While, Switch, Execute, Yield, Condition, Allocate, Deallocate, LoadElement, StoreElement, TakeSize, TakeRank, MemrefCast, LlvmFunction, LlvmCall, LlvmReturn, IntegerConstant, Unset, FlaggedIntegers, TwoIntegers, CompareIntegers, SelectOwn, NarrowInteger, TakePart, PutPart, MovePointer, LoadInteger, StoreInteger}
+use Rattle.rule_model.specs.declared.shapes.Shape.TheVariants.{FuncFunction, FuncReturn, Branch, BranchOn, If, For, While, Switch, Yield, Condition, LlvmFunction, LlvmReturn}
 use Rattle.rule_model.specs.Rows.{shape_of, ends_block, is_terminator}
 use Rattle.rule_model.specs.Facts.{Facts, Head, Holder, Target}
 use Rattle.rule_model.specs.Forms.{is_some_of, same_all, segments}

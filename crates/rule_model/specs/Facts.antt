@@ -1,5 +1,5 @@
 -- What the rules that are tests look at: an operation with what surrounds it, without any number of a value or label.
-use Rattle.std.specs.Prelude.{ℕ, ◌+◌, Bool, true, false, List, [], ◌∷◌, map, Option, Some, None, codes}
+use Rattle.std.specs.Prelude.{ℕ, Bool, true, false, List, [], ◌∷◌, map, Option, Some, None, codes}
 use Rattle.std.specs.Option.{option_map}
 use Rattle.plain_tree.specs.Types.{PlainType}
 use Rattle.plain_tree.specs.Attrs.{Entries, PlainAttr, Text, OfType, entry}

@@ -4,7 +4,7 @@ use Rattle.std.specs.List.{list_any, list_all}
 use Rattle.std.specs.Str.{bytes_eq}
 use Rattle.tree_model.specs.declared.type_tree.Dim.{Dim}
 use Rattle.tree_model.specs.declared.type_tree.Dim.TheVariants.{Fixed, Dynamic}
-use Rattle.plain_tree.specs.Types.{PlainType, PlainTypes, Int, Index, Memref, Func, Ptr, Void, Struct, Array, LlvmFunc, end_of_types, more_types, types_of, same_type, same_dim}
+use Rattle.plain_tree.specs.Types.{PlainType, Int, Index, Memref, Func, Ptr, Struct, Array, LlvmFunc, types_of, same_type}
 use Rattle.plain_tree.specs.Attrs.{Entries, PlainAttr, PlainAttrs, Unit, Number, Text, Attrs, Dict, OfType, Symbol, Numbers, Dialect, end_of_attrs, more_attrs, entry}
 use Rattle.rule_model.specs.Words.{if_some}
 

@@ -12,4 +12,5 @@ pub mod Sites
 pub mod Formed
 pub mod Rules
 pub mod Search
+pub mod Scopes
 pub mod Promises

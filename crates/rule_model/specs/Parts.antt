@@ -1,11 +1,11 @@
 -- Rules `Regions` and `Attribute`: regions with their blocks and first arguments, and properties.
-use Rattle.std.specs.Prelude.{ℕ, ◌+◌, ◌==◌, Bool, true, false, not, ◌&&◌, ◌||◌, List, [], ◌∷◌, map, length, drop, Option, Some, None, codes}
+use Rattle.std.specs.Prelude.{ℕ, ◌+◌, ◌==◌, Bool, true, false, not, ◌&&◌, ◌||◌, List, [], ◌∷◌, length, drop, Option, Some, None, codes}
 use Rattle.std.specs.List.{list_all, list_any}
 use Rattle.std.specs.Str.{bytes_eq}
-use Rattle.plain_tree.specs.Types.{PlainType, Index, Func, LlvmFunc, types_of, same_type}
-use Rattle.plain_tree.specs.Attrs.{Entries, PlainAttr, entry}
+use Rattle.plain_tree.specs.Types.{PlainType, Index, Func, LlvmFunc, types_of}
+use Rattle.plain_tree.specs.Attrs.{PlainAttr, entry}
 use Rattle.rule_model.specs.declared.shapes.Shape.{Shape}
-use Rattle.rule_model.specs.declared.shapes.Shape.TheVariants.{Module, Recast, FuncFunction, FuncCall, FuncReturn, NumberConstant, FlaggedNumbers, TwoNumbers, CompareNumbers, SelectValues, Widen, NarrowNumber, IndexCast, Branch, BranchOn, If, For, While, Switch, Execute, Yield, Condition, Allocate, Deallocate, LoadElement, StoreElement, TakeSize, TakeRank, MemrefCast, LlvmFunction, LlvmCall, LlvmReturn, IntegerConstant, Unset, FlaggedIntegers, TwoIntegers, CompareIntegers, SelectOwn, NarrowInteger, TakePart, PutPart, MovePointer, LoadInteger, StoreInteger}
+use Rattle.rule_model.specs.declared.shapes.Shape.TheVariants.{Module, FuncFunction, FuncCall, NumberConstant, FlaggedNumbers, CompareNumbers, NarrowNumber, BranchOn, If, For, While, Switch, Execute, Allocate, LoadElement, StoreElement, LlvmFunction, LlvmCall, IntegerConstant, FlaggedIntegers, CompareIntegers, NarrowInteger, TakePart, PutPart, MovePointer}
 use Rattle.rule_model.specs.Words.{if_some}
 use Rattle.rule_model.specs.Facts.{Facts, Head, type_of_function}
 use Rattle.rule_model.specs.Forms.{dynamic_count, dims_of, same_all, case_count, is_text, is_symbol, is_unit, is_truth, is_dict_list, is_func_type, is_llvm_func_type, is_integer_type, is_integer_of, is_predicate, is_alignment, is_flags, is_linkage, two_counts, is_some_of, is_size_count, distinct_count, finds_part, is_one_index}

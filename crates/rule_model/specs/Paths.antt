@@ -1,7 +1,7 @@
 -- Rule `Defined`: paths of operations through a region on which a value isn't defined.
-use Rattle.std.specs.Prelude.{◌≡◌, ℕ, Bool, true, false, List, [], ◌∷◌, ◌++◌, Option, Some, None, if◌then◌else◌, ⊤}
-use Rattle.plain_tree.specs.Ops.{Op, op, Ops, end_of_ops, more_ops, Regions, end_of_regions, region, Blocks, end_of_blocks, block, PlainBlock}
-use Rattle.rule_model.specs.Words.{has, AllOf, numbers, name_of, results_of, successors_of, first_block, block_of, binds}
+use Rattle.std.specs.Prelude.{◌≡◌, ℕ, Bool, true, false, List, [], ◌∷◌, ◌++◌, Some, if◌then◌else◌, ⊤}
+use Rattle.plain_tree.specs.Ops.{Op, Ops, end_of_ops, more_ops, Blocks, PlainBlock}
+use Rattle.rule_model.specs.Words.{has, numbers, name_of, results_of, successors_of, first_block, block_of, binds}
 use Rattle.rule_model.specs.Rows.{is_terminator}
 
 -- whether an operation ends the path through its block

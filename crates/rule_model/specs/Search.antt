@@ -3,7 +3,7 @@ use Rattle.std.specs.Prelude.{ℕ, zero, suc, ◌+◌, ◌==◌, Bool, true, fal
 use Rattle.plain_tree.specs.Ops.{Op, op, Ops, end_of_ops, more_ops, Regions, end_of_regions, region, Blocks, end_of_blocks, block, PlainBlock, PlainModule}
 use Rattle.rule_model.specs.declared.rules.Rule.{Rule}
 use Rattle.rule_model.specs.declared.rules.Rule.TheVariants as rule
-use Rattle.rule_model.specs.Words.{has, AnyOf, numbers, results_of, successors_of, first_block, block_of, binds, count_of}
+use Rattle.rule_model.specs.Words.{has, numbers, results_of, successors_of, first_block, block_of, binds, count_of}
 use Rattle.rule_model.specs.Facts.{functions, Functions}
 use Rattle.rule_model.specs.Paths.{ends, Frame}
 use Rattle.rule_model.specs.Chains.{op_used}

@@ -1,5 +1,5 @@
 -- Rules `Signature`, `Symbol`, `Reserved` and `ValueType`: functions, calls, returns, and which types values have.
-use Rattle.std.specs.Prelude.{ℕ, ◌+◌, Bool, true, false, not, ◌&&◌, ◌||◌, List, [], ◌∷◌, Option, Some, None, codes, if◌then◌else◌}
+use Rattle.std.specs.Prelude.{ℕ, ◌+◌, Bool, true, false, not, ◌&&◌, List, [], ◌∷◌, Option, Some, None, codes, if◌then◌else◌}
 use Rattle.std.specs.List.{list_all, list_any}
 use Rattle.std.specs.Option.{option_map}
 use Rattle.std.specs.Str.{bytes_eq}
@@ -7,12 +7,11 @@ use Rattle.plain_tree.specs.Types.{PlainType, Int, Func, Ptr, Void, LlvmFunc, ty
 use Rattle.plain_tree.specs.ValueTypes.{is_own, is_value}
 use Rattle.plain_tree.specs.Attrs.{Entries, PlainAttr, Symbol, entry}
 use Rattle.rule_model.specs.declared.shapes.Shape.{Shape}
-use Rattle.rule_model.specs.declared.shapes.Shape.TheVariants.{Module, Recast, FuncFunction, FuncCall, FuncReturn, NumberConstant, FlaggedNumbers, TwoNumbers, CompareNumbers, SelectValues, Widen, NarrowNumber, IndexCast, Branch, BranchOn, If, For, While, Switch, Execute, Yield, Condition, Allocate, Deallocate, LoadElement, StoreElement, TakeSize, TakeRank, MemrefCast, LlvmFunction, LlvmCall, LlvmReturn, IntegerConstant, Unset, FlaggedIntegers, TwoIntegers, CompareIntegers, SelectOwn, NarrowInteger, TakePart, PutPart, MovePointer, LoadInteger, StoreInteger}
+use Rattle.rule_model.specs.declared.shapes.Shape.TheVariants.{FuncFunction, FuncCall, FuncReturn, LlvmFunction, LlvmCall, LlvmReturn}
 use Rattle.rule_model.specs.Words.{if_some}
 use Rattle.rule_model.specs.Rows.{shape_of}
 use Rattle.rule_model.specs.Facts.{Declared, Facts, Functions, Head, Holder, name_in, type_of_function}
 use Rattle.rule_model.specs.Forms.{same_all}
-use Rattle.rule_model.specs.Types.{no_types}
 use Rattle.rule_model.specs.Control.{is_func_body, is_llvm_body}
 
 -- Signature

@@ -1,15 +1,13 @@
 -- Rules `Operands` and `Results`: the number and the types of operands and of results.
-use Rattle.std.specs.Prelude.{ℕ, zero, suc, ◌+◌, ◌==◌, nat_lt, Bool, true, false, ◌&&◌, List, [], ◌∷◌, length, take, drop, Option, Some, None, if◌then◌else◌}
+use Rattle.std.specs.Prelude.{ℕ, zero, suc, ◌+◌, ◌==◌, nat_lt, Bool, true, false, ◌&&◌, List, [], ◌∷◌, length, drop, Option, Some, None, if◌then◌else◌}
 use Rattle.std.specs.List.{list_all}
-use Rattle.tree_model.specs.declared.type_tree.Dim.{Dim}
 use Rattle.plain_tree.specs.Types.{PlainType, Int, Index, Memref, same_type}
 use Rattle.plain_tree.specs.ValueTypes.{is_own, is_value}
 use Rattle.rule_model.specs.declared.shapes.Shape.{Shape}
 use Rattle.rule_model.specs.declared.shapes.Shape.TheVariants.{Module, Recast, FuncFunction, FuncCall, FuncReturn, NumberConstant, FlaggedNumbers, TwoNumbers, CompareNumbers, SelectValues, Widen, NarrowNumber, IndexCast, Branch, BranchOn, If, For, While, Switch, Execute, Yield, Condition, Allocate, Deallocate, LoadElement, StoreElement, TakeSize, TakeRank, MemrefCast, LlvmFunction, LlvmCall, LlvmReturn, IntegerConstant, Unset, FlaggedIntegers, TwoIntegers, CompareIntegers, SelectOwn, NarrowInteger, TakePart, PutPart, MovePointer, LoadInteger, StoreInteger}
-use Rattle.rule_model.specs.Words.{if_some}
 use Rattle.rule_model.specs.Rows.{shape_of}
 use Rattle.rule_model.specs.Facts.{Facts, Holder}
-use Rattle.rule_model.specs.Forms.{is_number, is_integer, is_index, is_bit, is_pointer, is_memref, dims_of, dynamic_count, same_all, may_be_dims, segments, part_in}
+use Rattle.rule_model.specs.Forms.{is_number, is_integer, is_index, is_bit, is_pointer, is_memref, dynamic_count, same_all, may_be_dims, segments, part_in}
 
 abbrev pub no_types : List PlainType → Bool
 no_types [] = true

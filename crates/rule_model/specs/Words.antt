@@ -1,5 +1,5 @@
 -- Small words on numbers, values and blocks.
-use Rattle.std.specs.Prelude.{ℕ, ◌+◌, ◌==◌, Bool, true, false, ◌||◌, ◌⊎◌, List, [], ◌∷◌, Option, Some, None, if◌then◌else◌, ⊤}
+use Rattle.std.specs.Prelude.{ℕ, ◌+◌, ◌==◌, Bool, false, ◌||◌, ◌⊎◌, List, [], ◌∷◌, Option, Some, None, if◌then◌else◌, ⊤}
 use Rattle.plain_tree.specs.Types.{PlainType}
 use Rattle.plain_tree.specs.Ops.{Op, op, Ops, end_of_ops, more_ops, Blocks, end_of_blocks, block, PlainBlock, Values}
 

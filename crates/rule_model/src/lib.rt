@@ -7,6 +7,8 @@ mod laws;
 mod rules;
 mod shapes;
 
-pub use laws::{law_nothing_broken, law_one_answer, law_renaming, law_search, law_use_in_front};
+pub use laws::{
+    law_nothing_broken, law_one_answer, law_regions, law_renaming, law_search, law_use_in_front,
+};
 pub use rules::Rule;
 pub use shapes::Shape;

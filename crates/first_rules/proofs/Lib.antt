@@ -1,0 +1,7 @@
+pub mod Numbers
+pub mod Bodies
+pub mod Sound
+pub mod Formed
+pub mod Verified
+pub mod Names
+pub mod Plains

@@ -1,0 +1,6 @@
+//! First texts keep the rules.
+#![tactic(auto)]
+
+mod laws;
+
+pub use laws::law_first_verified;
