@@ -7,14 +7,15 @@ use Rattle.tree_model.specs.declared.type_tree.TypeTree.{TypeTree, out-TypeTree}
 use Rattle.tree_model.specs.declared.type_tree.TypeTree as type
 use Rattle.tree_model.specs.declared.type_tree.TypeTree.TheOpen.{TypeTree-F}
 use Rattle.tree_model.specs.declared.type_tree.TypeTree.TheFolds.{fold-TypeTree}
+use Rattle.number_model.specs.Numbers.{width}
 use Rattle.operation_model.specs.Values.{Value, Unset, together}
 
 abbrev pub width_at : ℕ → TypeTree-F TypeTree → Option ℕ
-width_at bits (TypeTree-F.Int width) = Some width
+width_at bits (TypeTree-F.Int w) = width w
 width_at bits TypeTree-F.Index = Some bits
 width_at bits _ = None
 
--- the width of an integer type, or of `index`
+-- the width of an integer type of 1 to 64 bits, or of `index`
 abbrev pub width_of : ℕ → TypeTree → Option ℕ
 width_of bits t = width_at bits (out-TypeTree t)
 
