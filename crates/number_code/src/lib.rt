@@ -4,10 +4,8 @@
 mod arith;
 mod division;
 mod operations;
-mod width;
 mod widths;
 
 pub use arith::{Binary, Flags, Given};
 pub use operations::{Comparison, Resize, compares, of_two, resized};
-pub use width::Width;
 pub use widths::{fits_signed, fits_unsigned, modulus, signed, unsigned, wrapped};
