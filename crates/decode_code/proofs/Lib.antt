@@ -1,0 +1,3 @@
+pub mod CodeLayers
+pub mod ValueLayers
+pub mod TypeLayers

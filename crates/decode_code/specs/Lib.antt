@@ -1,0 +1,4 @@
+pub mod TypesIn
+pub mod CodeBy
+pub mod Readings
+pub mod Signatures
