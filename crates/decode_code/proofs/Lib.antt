@@ -1,3 +1,4 @@
 pub mod CodeLayers
 pub mod ValueLayers
 pub mod TypeLayers
+pub mod FinderLemmas

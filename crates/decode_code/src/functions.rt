@@ -150,9 +150,9 @@ fn decode_all(
 }
 
 /// The functions of a module, where an `index` has so many bits.
-pub fn decode(alloc: Global, bits: Width, module: &ModuleTree) -> Result<Items<Function>, NoMemory>
-    ensures { IfOk result (λ fs. functions_of fs ≡ model.functions_of bits.bits module.now) }
+pub fn decode(alloc: Global, bits: Width, tree: &ModuleTree) -> Result<Items<Function>, NoMemory>
+    ensures { IfOk result (λ fs. functions_of fs ≡ model.functions_of bits.bits tree.now) }
 {
-    let places = places_of(alloc, module.funcs.as_slice())?;
-    decode_all(alloc, bits, &places, module.funcs.as_slice())
+    let places = places_of(alloc, tree.funcs.as_slice())?;
+    decode_all(alloc, bits, &places, tree.funcs.as_slice())
 }
