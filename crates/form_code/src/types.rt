@@ -5,7 +5,6 @@ ghost use Rattle.std.specs.Prelude.{◌≡◌, IfOk, Option, map, replicate};
 ghost use Rattle.std.specs.Option.{option_map};
 ghost use Rattle.run_code.specs.Views.{bits_of};
 ghost use Rattle.value_code.specs.Models.{value_of, values_of};
-ghost use Rattle.number_model.specs.Numbers.{width};
 ghost use Rattle.form_model.specs.Types as model;
 ghost use Rattle.form_code.specs.Views.{bits_in, memref_view};
 
@@ -34,7 +33,7 @@ pub fn width_of(bits: Width, t: &TypeTree) -> Option<Width>
 
 /// The width of so many bits, where it is one.
 fn integer_width(bits: u32) -> Option<Width>
-    ensures { option_map bits_in result ≡ width bits }
+    ensures { option_map bits_in result ≡ model.width bits }
 {
     run_code::width_of(bits)
 }

@@ -1,5 +1,5 @@
 -- What types tell: widths, ranks, and the value that was never set. An `index` has so many bits as a run says.
-use Rattle.std.specs.Prelude.{ℕ, zero, suc, ◌==◌, Bool, true, false, ◌&&◌, List, [], ◌∷◌, length, map, replicate, Option, Some, None, if◌then◌else◌}
+use Rattle.std.specs.Prelude.{ℕ, zero, suc, ◌==◌, nat_le, Bool, true, false, ◌&&◌, List, [], ◌∷◌, length, map, replicate, Option, Some, None, if◌then◌else◌}
 use Rattle.std.specs.List.{list_all}
 use Rattle.tree_model.specs.declared.type_tree.Dim.{Dim}
 use Rattle.tree_model.specs.declared.type_tree.Dim.TheVariants.{Fixed, Dynamic}
@@ -7,8 +7,11 @@ use Rattle.tree_model.specs.declared.type_tree.TypeTree.{TypeTree, out-TypeTree}
 use Rattle.tree_model.specs.declared.type_tree.TypeTree as type
 use Rattle.tree_model.specs.declared.type_tree.TypeTree.TheOpen.{TypeTree-F}
 use Rattle.tree_model.specs.declared.type_tree.TypeTree.TheFolds.{fold-TypeTree}
-use Rattle.number_model.specs.Numbers.{width}
 use Rattle.operation_model.specs.Values.{Value, Unset, together}
+
+-- the widths of integers: 1 to 64 bits
+abbrev pub width : ℕ → Option ℕ
+width w = if nat_le 1 w && nat_le w 64 then Some w else None
 
 abbrev pub width_at : ℕ → TypeTree-F TypeTree → Option ℕ
 width_at bits (TypeTree-F.Int w) = width w

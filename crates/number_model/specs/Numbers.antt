@@ -1,9 +1,5 @@
 -- Numbers of w bits. A number stands for each number that is equal to it modulo 2^w, so it is read modulo 2^w wherever it is used.
-use Rattle.std.specs.Prelude.{ℕ, suc, ◌-◌, ◌%◌, ◌^◌, nat_lt, nat_le, Bool, false, ◌&&◌, Option, Some, None, ℤ, pos, negsuc, if◌then◌else◌}
-
--- the widths of integers: 1 to 64 bits
-abbrev pub width : ℕ → Option ℕ
-width w = if nat_le 1 w && nat_le w 64 then Some w else None
+use Rattle.std.specs.Prelude.{ℕ, suc, ◌-◌, ◌%◌, ◌^◌, nat_lt, Bool, false, ℤ, pos, negsuc, if◌then◌else◌}
 
 -- as an unsigned number
 abbrev pub unsigned : ℕ → ℕ → ℕ
