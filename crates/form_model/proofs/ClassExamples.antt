@@ -12,7 +12,7 @@ use Rattle.number_model.specs.Arithmetic.{no_flags, Add, Multiply, Divide, Divid
 use Rattle.operation_model.specs.Values.{Integer, Unset, together}
 use Rattle.operation_model.specs.Pures.{Known, TwoNumbers, Compares, Resizes, Moves, TakesPart, MovesPointer, HasSizes, TakesSize}
 use Rattle.operation_model.specs.Calling.{Bare, Together}
-use Rattle.form_model.specs.Types.{same_type, same_at}
+use Rattle.form_model.specs.Types.{same_type, same_at, width}
 use Rattle.operation_model.specs.Forms.{Form, Computes, Branch, BranchOn, Call, Return, Load, Store, Allocate, AllocateAligned, Free, NewMemref, LoadElement, StoreElement, For, Switch, Unknown}
 use Rattle.form_model.specs.Properties.{Entries}
 use Rattle.form_model.specs.Classes.{form_of}
@@ -55,6 +55,23 @@ addition = simp outs-Int refl
 same_addition : of (codes "llvm.add") 64 [] (i32 ∷ i32 ∷ []) (i32 ∷ []) ≡ Computes (TwoNumbers (Add no_flags) 32)
 unfolding form_of
 same_addition = simp outs-Int refl
+
+-- an integer type has 1 to 64 bits, or no width
+widest : width 64 ≡ Some 64
+widest = refl
+
+wider : width 65 ≡ None
+wider = refl
+
+narrowest : width 1 ≡ Some 1
+narrowest = refl
+
+no_bits : width 0 ≡ None
+no_bits = refl
+
+addition_of_too_wide_ones : of (codes "arith.addi") 64 [] (type.Int 65 ∷ type.Int 65 ∷ []) (type.Int 65 ∷ []) ≡ Unknown
+unfolding form_of
+addition_of_too_wide_ones = simp outs-Int refl
 
 -- an `index` has the bits that the run says
 addition_of_indices : of (codes "arith.muli") 32 [] (type.Index ∷ type.Index ∷ []) (type.Index ∷ []) ≡ Computes (TwoNumbers (Multiply no_flags) 32)

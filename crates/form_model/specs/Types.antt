@@ -1,5 +1,5 @@
 -- What types tell: widths, ranks, and the value that was never set. An `index` has so many bits as a run says.
-use Rattle.std.specs.Prelude.{ℕ, zero, suc, ◌==◌, Bool, true, false, ◌&&◌, List, [], ◌∷◌, length, map, replicate, Option, Some, None, if◌then◌else◌}
+use Rattle.std.specs.Prelude.{ℕ, zero, suc, ◌==◌, nat_le, Bool, true, false, ◌&&◌, List, [], ◌∷◌, length, map, replicate, Option, Some, None, if◌then◌else◌}
 use Rattle.std.specs.List.{list_all}
 use Rattle.tree_model.specs.declared.type_tree.Dim.{Dim}
 use Rattle.tree_model.specs.declared.type_tree.Dim.TheVariants.{Fixed, Dynamic}
@@ -9,12 +9,16 @@ use Rattle.tree_model.specs.declared.type_tree.TypeTree.TheOpen.{TypeTree-F}
 use Rattle.tree_model.specs.declared.type_tree.TypeTree.TheFolds.{fold-TypeTree}
 use Rattle.operation_model.specs.Values.{Value, Unset, together}
 
+-- the widths of integers: 1 to 64 bits
+abbrev pub width : ℕ → Option ℕ
+width w = if nat_le 1 w && nat_le w 64 then Some w else None
+
 abbrev pub width_at : ℕ → TypeTree-F TypeTree → Option ℕ
-width_at bits (TypeTree-F.Int width) = Some width
+width_at bits (TypeTree-F.Int w) = width w
 width_at bits TypeTree-F.Index = Some bits
 width_at bits _ = None
 
--- the width of an integer type, or of `index`
+-- the width of an integer type of 1 to 64 bits, or of `index`
 abbrev pub width_of : ℕ → TypeTree → Option ℕ
 width_of bits t = width_at bits (out-TypeTree t)
 

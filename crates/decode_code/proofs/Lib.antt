@@ -1,0 +1,4 @@
+pub mod CodeLayers
+pub mod ValueLayers
+pub mod TypeLayers
+pub mod FinderLemmas

@@ -1,0 +1,5 @@
+pub mod TypesIn
+pub mod CodeBy
+pub mod Readings
+pub mod Signatures
+pub mod Finding
