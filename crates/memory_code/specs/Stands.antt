@@ -8,7 +8,6 @@ use Rattle.machine_model.specs.Worlds.{Reply, Answers, Refuses}
 use Rattle.machine_model.specs.Worlds.{Stop as stop}
 use Rattle.meaning_model.specs.Buffers as model
 use Rattle.value_code.specs.declared.look.Looked.{Looked}
-use Rattle.value_code.specs.declared.look.Looked.TheVariants as looked
 use Rattle.value_code.specs.declared.value.Place.{Place}
 use Rattle.value_code.specs.Models.{looked_of}
 use Rattle.memory_code.specs.declared.bytes.ByteMap.{ByteMap}
@@ -27,10 +26,13 @@ loads w None = answer.Undefined
 loads w (Some n) = if nat_lt n (2 ^ w) then answer.Gives n else answer.Undefined
 
 -- a number that is read as a reply
+abbrev pub reply_from : {S : Type 0} → Answer ℕ → S → Reply S
+reply_from (answer.Gives n) s = Answers (values.Integer n ∷ []) s
+reply_from answer.Undefined s = Refuses stop.Undefined
+reply_from answer.Outside s = Refuses stop.Outside
+
 abbrev pub reply_of : {S : Type 0} → Looked ℕ → S → Reply S
-reply_of (looked.Gives n) s = Answers (values.Integer n ∷ []) s
-reply_of looked.Undefined s = Refuses stop.Undefined
-reply_of looked.Outside s = Refuses stop.Outside
+reply_of l s = reply_from (read_of l) s
 
 -- a change that is made, or is undefined
 abbrev pub Changes : {M S : Type 0} → (M → S → Type 0) → Bool → M → Reply S → Type 0
