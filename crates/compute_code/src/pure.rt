@@ -1,6 +1,6 @@
 //! What an operation that only computes gives of its operands.
 
-ghost use Rattle.std.specs.Prelude.{◌≡◌, ◌≤◌, IfOk};
+ghost use Rattle.std.specs.Prelude.{◌≡◌, IfOk};
 ghost use Rattle.operation_model.specs.Pures as model;
 ghost use Rattle.number_code.specs.Models.{binary_of, comparison_of};
 ghost use Rattle.value_code.specs.Models.{integer_of, pointer_of, values_behind, values_of};
@@ -11,7 +11,7 @@ ghost use Rattle.compute_code.specs.Given.{given};
 use crate::casts::has_sizes;
 use crate::inserts::with_part;
 use number_code::{Binary, Comparison, Resize};
-use run_code::{Change, Pure, Width};
+use run_code::{Change, Pure, Width, byte_size};
 use std::alloc::{AllocError, Global};
 use value_code::{
     Looked, Place, Value, compared, copy_value, move_pointer, part_at, selected, taken_size,
@@ -93,24 +93,8 @@ fn of_pointer(w: Width, xs: &[Value]) -> Looked<Place>
     ensures { pointer_of result ≡ model.gives (model.MovesPointer (byte_size w.bits)) (values_of xs.now) }
 {
     match xs {
-        [x, y] => move_pointer(element_size(w), x, y),
+        [x, y] => move_pointer(byte_size(w), x, y),
         _ => Looked::Outside,
-    }
-}
-
-/// The number of bytes of an integer of this width.
-fn element_size(w: Width) -> u64
-    ensures value { result ≡ byte_size w.bits }
-    ensures small { result ≤ 8 }
-{
-    if w.bits <= 8 {
-        1
-    } else if w.bits <= 16 {
-        2
-    } else if w.bits <= 32 {
-        4
-    } else {
-        8
     }
 }
 

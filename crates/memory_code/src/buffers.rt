@@ -6,9 +6,9 @@ ghost use Rattle.memory_code.specs.Stands.{reply_of, IsBuffer, IsHeap};
 
 use crate::bytes::{ByteMap, no_bytes, number_from, put_number};
 use crate::memory::Memory;
-use crate::sizes::{byte_size, in_width};
+use crate::sizes::in_width;
 use number_code::unsigned;
-use run_code::Width;
+use run_code::{Width, byte_size};
 use sqlite_items::at;
 use std::alloc::{AllocError, Global};
 use value_code::{Looked, Place};

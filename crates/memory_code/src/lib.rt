@@ -11,4 +11,4 @@ pub use buffers::{Buffer, Buffers, no_buffers};
 pub use bytes::{ByteMap, no_bytes, number_from, put_number};
 pub use cells::{Allocation, Cells, free_cells};
 pub use memory::Memory;
-pub use sizes::{byte_size, in_width};
+pub use sizes::in_width;
