@@ -12,4 +12,4 @@ pub use function::{
     Block, BlockList, Face, Function, IdList, Operation, OperationList, Region, RegionList,
     WidthList,
 };
-pub use width::{Width, full_width, width_of};
+pub use width::{Width, byte_size, full_width, width_of};

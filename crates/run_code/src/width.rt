@@ -1,6 +1,7 @@
 //! Widths of integers.
 
 ghost use Rattle.std.specs.Prelude.{◌≡◌, ℕ, ◌≤◌, ◌<◌, MatchOption, ◌⊎◌};
+ghost use Rattle.operation_model.specs.Straight as straight;
 
 /// The number of bits of an integer, from 1 to 64.
 #[derive(Clone, Copy, PartialEq, Eq, Debug)]
@@ -26,4 +27,20 @@ pub fn full_width() -> Width
     ensures { result.bits ≡ 64 }
 {
     Width { bits: 64 }
+}
+
+/// The number of bytes of an integer of this width.
+pub fn byte_size(w: Width) -> u64
+    ensures value { result ≡ straight.byte_size w.bits }
+    ensures small { result ≤ 8 }
+{
+    if w.bits <= 8 {
+        1
+    } else if w.bits <= 16 {
+        2
+    } else if w.bits <= 32 {
+        4
+    } else {
+        8
+    }
 }
