@@ -81,7 +81,7 @@ fn values(rt: HostRuntime) -> Result<(), Fail> {
         &rt,
         rt.alloc(),
         b"%a = \"t.x\"() : () -> (i1, i1)",
-        32,
+        31,
         "TypeCount",
     )
 }
