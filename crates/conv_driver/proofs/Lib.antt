@@ -1,2 +1,2 @@
 pub mod ConversionLemmas
-pub mod FirstModules
+pub mod TellingLemmas

@@ -1,8 +1,7 @@
 -- The conversion of all functions of a module.
-use Rattle.std.specs.Prelude.{◌≡◌, ℕ, List, [], ◌∷◌, Ok, ⊤}
+use Rattle.std.specs.Prelude.{◌≡◌, List, [], ◌∷◌, Ok, ⊤}
 use Rattle.tree_model.specs.declared.op_tree.FuncTree.{FuncTree}
 use Rattle.tree_model.specs.declared.op_tree.ModuleTree.{ModuleTree}
-use Rattle.text_model.specs.FirstText.{IsFirstText}
 use Rattle.lowering_model.specs.ArithPass.{arith_converted}
 use Rattle.lowering_model.specs.FirstFunctions.{IsFirstFunc}
 
@@ -23,7 +22,3 @@ pub record IsConverted (before after : ModuleTree) : Type 0 where
   pub props : after.props ≡ before.props
   pub attrs : after.attrs ≡ before.attrs
   pub funcs : EachConverts before.funcs after.funcs
-
--- the functions of the module of a first text are first functions
-abbrev pub FirstModules : Type 0
-FirstModules = (text : List ℕ) (tree : ModuleTree) → IsFirstText text tree → AllFirst tree.funcs

@@ -2,7 +2,7 @@
 #![tactic(auto)]
 
 mod convert;
-mod laws;
+mod telling;
 
 pub use convert::{convert_module, convert_tree};
-pub use laws::law_first_module;
+pub use telling::are_first;
