@@ -1,6 +1,6 @@
 //! The words of a command line.
 
-ghost use Rattle.std.specs.Prelude.{◌≡◌, ◌↔◌, ℕ, List, [], ◌∷◌, ◌++◌, IfNone, IfSome, OnOk, OnErr, IsTrue};
+ghost use Rattle.std.specs.Prelude.{◌≡◌, [], ◌∷◌, ◌++◌, OnOk, OnErr, map};
 
 use crate::NoMemory;
 use std::alloc::{AllocError, Global};
@@ -30,22 +30,11 @@ impl Words {
         }
     }
 
-    /// Whether there is no word.
-    pub fn is_empty(&self) -> bool
-        ensures { IsTrue result ↔ (self.now ≡ []) }
+    /// The words in order.
+    pub fn as_slice(&self) -> &[Vec<u8>]
+        ensures { map (λ w. w.items) result.now ≡ self.now }
     {
-        self.words.is_empty()
-    }
-
-    /// The bytes of the one word, or none where there are several or no words.
-    pub fn only(&self) -> Option<&[u8]>
-        ensures one { IfSome result (λ word. self.now ≡ word.now ∷ []) }
-        ensures none { IfNone result ((word : List ℕ) → self.now ≡ word ∷ [] → ⊥) }
-    {
-        match self.words.as_slice() {
-            [word] => Some(word.as_slice()),
-            _ => None,
-        }
+        self.words.as_slice()
     }
 
     /// Puts a copy of `word` last.

@@ -3,5 +3,3 @@ pub mod Bodies
 pub mod Sound
 pub mod Formed
 pub mod Verified
-pub mod Names
-pub mod Plains

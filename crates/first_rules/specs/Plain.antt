@@ -1,4 +1,4 @@
--- The modules of first texts as plain trees, and when their names are in order.
+-- First modules as plain trees, and when their names are in order.
 use Rattle.std.specs.Prelude.{◌≡◌, ℕ, zero, suc, ◌+◌, ◌<◌, Bool, true, false, List, [], ◌∷◌, ◌++◌, map, replicate, ℤ, codes, None, ⊤}
 use Rattle.std.specs.List.{list_any}
 use Rattle.std.specs.Str.{bytes_eq}

@@ -1,4 +1,4 @@
-//! First texts keep the rules.
+//! First modules keep the rules.
 #![tactic(auto)]
 
 mod laws;

@@ -1,5 +1,2 @@
 -- The laws of the texts.
-pub mod PhraseLaws
-pub mod FirstLaws
-pub mod OneTree
 pub mod PrintedLemmas

@@ -1,9 +1,8 @@
-//! The texts of modules: which bytes are the text of which module, and which bytes a module prints as.
+//! Which bytes a module prints as.
 //!
-//! A crate of definitions with their laws. [`first`] has the data that a first text is read as.
+//! A crate of definitions with their laws.
 #![tactic(auto)]
 
-pub mod first;
 mod printed;
 mod value_name;
 

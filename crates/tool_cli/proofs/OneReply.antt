@@ -1,17 +1,21 @@
 -- At most one reply fits.
-use Rattle.std.proofs.Common.{◌≡◌, ℕ, List, [], ◌∷◌, Option, Some, None, Result, Ok, refl, sym, ap, ◌∙◌, subst, arith}
+use Rattle.std.proofs.Common.{◌≡◌, ℕ, ◌≤◌, ◌<◌, List, [], ◌∷◌, Bool, Option, Some, None, Result, Ok, refl, sym, ap, ◌∙◌, subst, arith}
 use Rattle.tree_model.specs.declared.op_tree.FuncTree.{FuncTree}
 use Rattle.tree_model.specs.declared.op_tree.ModuleTree.{ModuleTree}
+use Rattle.text_kinds.specs.declared.found.Found.{Found}
 use Rattle.lowering_model.specs.ArithPass.{arith_converted}
 use Rattle.lowering_model.specs.Conversion.{Unlegalised}
-use Rattle.text_model.specs.FirstText.{IsFirstText}
-use Rattle.text_model.proofs.OneTree.{one_tree}
-use Rattle.conv_driver.specs.Modules.{EachConverts}
+use Rattle.module_reader.specs.Reads.{Reads, ReadsNot}
+use Rattle.module_reader.proofs.Once.{one_module, one_refusal, not_both}
+use Rattle.conv_driver.specs.Modules.{AllFirst, EachConverts}
 use Rattle.tool_cli.specs.declared.command.Command.{Command}
-use Rattle.tool_cli.specs.declared.command.Command.TheVariants.{Print, ConvertArith}
+use Rattle.tool_cli.specs.declared.command.Pass.{Pass}
+use Rattle.tool_cli.specs.declared.command.Pass.TheVariants.{Nothing, ConvertArith}
 use Rattle.tool_cli.specs.Commands.{command_of}
 use Rattle.tool_cli.specs.Passes.{Makes}
-use Rattle.tool_cli.specs.Replies.{Reply, printed, Out, no_command, long_input, no_module, a_module}
+use Rattle.tool_cli.specs.Refusals.{refused}
+use Rattle.tool_cli.specs.Told.{Reply}
+use Rattle.tool_cli.specs.Replies.{printed, Out, no_command, long_input, no_module, not_built, a_module}
 
 one_function : (f g h : FuncTree) → arith_converted f ≡ Ok g → arith_converted f ≡ Ok h → g ≡ h
 one_function f g h p q = let both : ◌≡◌ {A = Result FuncTree Unlegalised} (Ok g) (Ok h) = sym p ∙ q in cc
@@ -26,13 +30,13 @@ one_list (f ∷ fs) (g ∷ gs) (h ∷ hs) p q =
     let first : g ≡ h = one_function f g h p.0 q.0 in
     let behind : gs ≡ hs = one_list fs gs hs p.1 q.1 in cc
 
--- a command makes one module of a module
-makes_one : (command : Command) (source one other : ModuleTree) → Makes command source one → Makes command source other → one ≡ other
-makes_one Print source one other p q = p ∙ sym q
+-- a pass makes one module of a module
+makes_one : (pass : Pass) (source one other : ModuleTree) → Makes pass source one → Makes pass source other → one ≡ other
+makes_one Nothing source one other p q = p ∙ sym q
 makes_one ConvertArith source one other p q =
-    let props : one.props ≡ other.props = p.props ∙ sym q.props in
-    let attrs : one.attrs ≡ other.attrs = p.attrs ∙ sym q.attrs in
-    let funcs : one.funcs ≡ other.funcs = one_list source.funcs one.funcs other.funcs p.funcs q.funcs in
+    let props : one.props ≡ other.props = p.1.props ∙ sym q.1.props in
+    let attrs : one.attrs ≡ other.attrs = p.1.attrs ∙ sym q.1.attrs in
+    let funcs : one.funcs ≡ other.funcs = one_list source.funcs one.funcs other.funcs p.1.funcs q.1.funcs in
     λ i. record { props = props i; attrs = attrs i; funcs = funcs i }
 
 same_command : (words : List (List ℕ)) (c d : Command) → command_of words ≡ Some c → command_of words ≡ Some d → c ≡ d
@@ -41,29 +45,72 @@ same_command words c d p q = let both : ◌≡◌ {A = Option Command} (Some c) 
 no_and_some : (words : List (List ℕ)) (c : Command) → command_of words ≡ None → command_of words ≡ Some c → ⊥
 no_and_some words c p q = let both : ◌≡◌ {A = Option Command} None (Some c) = sym p ∙ q in absurd cc
 
+-- two readings of a text by one command
+reads_as : (words : List (List ℕ)) (bytes : List ℕ) (c d : Command) (s : ModuleTree) → command_of words ≡ Some c → command_of words ≡ Some d
+    → Reads bytes d.allowed s → Reads bytes c.allowed s
+reads_as words bytes c d s p q reads = let P : Command → Type 0 = λ e. Reads bytes e.allowed s in subst P (same_command words d c q p) reads
+
+refused_as : (words : List (List ℕ)) (bytes : List ℕ) (c d : Command) (f : Found) → command_of words ≡ Some c → command_of words ≡ Some d
+    → ReadsNot bytes d.allowed f → ReadsNot bytes c.allowed f
+refused_as words bytes c d f p q reads = let P : Command → Type 0 = λ e. ReadsNot bytes e.allowed f in subst P (same_command words d c q p) reads
+
+-- a text that one row reads and another refuses
+never_both : (words : List (List ℕ)) (bytes : List ℕ) (c d : Command) (s : ModuleTree) (f : Found) → command_of words ≡ Some c → command_of words ≡ Some d
+    → Reads bytes c.allowed s → ReadsNot bytes d.allowed f → ⊥
+never_both words bytes c d s f p q reads not = not_both bytes c.allowed s f reads (refused_as words bytes c d f p q not)
+
+one_found : (words : List (List ℕ)) (bytes : List ℕ) (c d : Command) (f g : Found) → command_of words ≡ Some c → command_of words ≡ Some d
+    → ReadsNot bytes c.allowed f → ReadsNot bytes d.allowed g → f ≡ g
+one_found words bytes c d f g p q not also = one_refusal bytes c.allowed f g not (refused_as words bytes c d g p q also)
+
+one_source : (words : List (List ℕ)) (bytes : List ℕ) (c d : Command) (s t : ModuleTree) → command_of words ≡ Some c → command_of words ≡ Some d
+    → Reads bytes c.allowed s → Reads bytes d.allowed t → s ≡ t
+one_source words bytes c d s t p q reads also = one_module bytes c.allowed s t reads (reads_as words bytes c d t p q also)
+
+-- the pass converts first functions alone
+makes_first : (pass : Pass) (source made : ModuleTree) → pass ≡ ConvertArith → Makes pass source made → AllFirst source.funcs
+makes_first pass source made is makes = let P : Pass → Type 0 = λ p. Makes p source made in (subst P is makes).0
+
+never_made : (words : List (List ℕ)) (bytes : List ℕ) (c d : Command) (s t made : ModuleTree) → command_of words ≡ Some c → command_of words ≡ Some d
+    → Reads bytes c.allowed s → Reads bytes d.allowed t → c.pass ≡ ConvertArith → (AllFirst s.funcs → ⊥) → Makes d.pass t made → ⊥
+never_made words bytes c d s t made p q reads also is none makes =
+    let same = ap (λ (e : Command). e.pass) (same_command words d c q p) in
+    let first = makes_first d.pass t made (same ∙ is) makes in
+    let P : ModuleTree → Type 0 = λ m. AllFirst m.funcs in
+    none (subst P (one_source words bytes d c t s q p also reads) first)
+
 one_made : (words : List (List ℕ)) (bytes : List ℕ) (c d : Command) (source other made same : ModuleTree) → command_of words ≡ Some c → command_of words ≡ Some d
-    → IsFirstText bytes source → IsFirstText bytes other → Makes c source made → Makes d other same → made ≡ same
+    → Reads bytes c.allowed source → Reads bytes d.allowed other → Makes c.pass source made → Makes d.pass other same → made ≡ same
 one_made words bytes c d source other made same p q found also makes remakes =
-    let P : Command → Type 0 = λ e. Makes e other same in
-    let Q : ModuleTree → Type 0 = λ t. Makes c t same in
-    makes_one c source made same makes
-    (subst Q (one_tree bytes other source also found) (subst P (same_command words d c q p) remakes))
+    let P : Command → Type 0 = λ e. Makes e.pass other same in
+    let Q : ModuleTree → Type 0 = λ t. Makes c.pass t same in
+    makes_one c.pass source made same makes
+    (subst Q (one_source words bytes d c other source q p also found) (subst P (same_command words d c q p) remakes))
 
 pub one_reply : (words : List (List ℕ)) (bytes : List ℕ) (one other : Reply) → Out words bytes one → Out words bytes other → one ≡ other
 one_reply words bytes _ _ (no_command _) (no_command _) = refl
 one_reply words bytes _ _ (no_command a) (long_input c b _) = absurd (no_and_some words c a b)
-one_reply words bytes _ _ (no_command a) (no_module c b _ _) = absurd (no_and_some words c a b)
+one_reply words bytes _ _ (no_command a) (no_module c _ b _ _) = absurd (no_and_some words c a b)
+one_reply words bytes _ _ (no_command a) (not_built c _ b _ _ _ _) = absurd (no_and_some words c a b)
 one_reply words bytes _ _ (no_command a) (a_module c _ _ b _ _ _) = absurd (no_and_some words c a b)
 one_reply words bytes _ _ (long_input c a _) (no_command b) = absurd (no_and_some words c b a)
 one_reply words bytes _ _ (long_input _ _ _) (long_input _ _ _) = refl
-one_reply words bytes _ _ (long_input _ _ a) (no_module _ _ b _) = absurd (omega arith)
+one_reply words bytes _ _ (long_input _ _ a) (no_module _ _ _ b _) = absurd (omega arith)
+one_reply words bytes _ _ (long_input _ _ a) (not_built _ _ _ b _ _ _) = absurd (omega arith)
 one_reply words bytes _ _ (long_input _ _ a) (a_module _ _ _ _ b _ _) = absurd (omega arith)
-one_reply words bytes _ _ (no_module c a _ _) (no_command b) = absurd (no_and_some words c b a)
-one_reply words bytes _ _ (no_module _ _ a _) (long_input _ _ b) = absurd (omega arith)
-one_reply words bytes _ _ (no_module _ _ _ _) (no_module _ _ _ _) = refl
-one_reply words bytes _ _ (no_module _ _ _ none) (a_module _ source _ _ _ found _) = absurd (none source found)
+one_reply words bytes _ _ (no_module c _ a _ _) (no_command b) = absurd (no_and_some words c b a)
+one_reply words bytes _ _ (no_module _ _ _ a _) (long_input _ _ b) = absurd (omega arith)
+one_reply words bytes _ _ (no_module c f p _ a) (no_module d g q _ b) = ap refused (one_found words bytes c d f g p q a b)
+one_reply words bytes _ _ (no_module c f p _ a) (not_built d s q _ b _ _) = absurd (never_both words bytes d c s f q p b a)
+one_reply words bytes _ _ (no_module c f p _ a) (a_module d s _ q _ b _) = absurd (never_both words bytes d c s f q p b a)
+one_reply words bytes _ _ (not_built c _ a _ _ _ _) (no_command b) = absurd (no_and_some words c b a)
+one_reply words bytes _ _ (not_built _ _ _ a _ _ _) (long_input _ _ b) = absurd (omega arith)
+one_reply words bytes _ _ (not_built c s p _ a _ _) (no_module d f q _ b) = absurd (never_both words bytes c d s f p q a b)
+one_reply words bytes _ _ (not_built _ _ _ _ _ _ _) (not_built _ _ _ _ _ _ _) = refl
+one_reply words bytes _ _ (not_built c s p _ a is none) (a_module d t made q _ b makes) = absurd (never_made words bytes c d s t made p q a b is none makes)
 one_reply words bytes _ _ (a_module c _ _ a _ _ _) (no_command b) = absurd (no_and_some words c b a)
 one_reply words bytes _ _ (a_module _ _ _ _ a _ _) (long_input _ _ b) = absurd (omega arith)
-one_reply words bytes _ _ (a_module _ source _ _ _ found _) (no_module _ _ _ none) = absurd (none source found)
+one_reply words bytes _ _ (a_module c s _ p _ a _) (no_module d f q _ b) = absurd (never_both words bytes c d s f p q a b)
+one_reply words bytes _ _ (a_module d t made q _ b makes) (not_built c s p _ a is none) = absurd (never_made words bytes c d s t made p q a b is none makes)
 one_reply words bytes _ _ (a_module c source made p _ found makes) (a_module d other same q _ also remakes) =
     ap printed (one_made words bytes c d source other made same p q found also makes remakes)

@@ -2,5 +2,7 @@
 pub mod Codes
 pub mod Commands
 pub mod Passes
+pub mod Told
+pub mod Refusals
 pub mod Replies
 pub mod Runs

@@ -6,7 +6,8 @@ use Rattle.tool_cli.specs.declared.status.Status.{Status}
 use Rattle.tool_cli.specs.declared.status.Status.TheVariants.{Ok, Usage, Refused, PassFailed, ReadFault, WriteFault, NoMemory, Limit}
 use Rattle.tool_cli.specs.declared.command.Command.{Command}
 use Rattle.tool_cli.specs.Commands.{command_of}
-use Rattle.tool_cli.specs.Replies.{Reply, Out}
+use Rattle.tool_cli.specs.Told.{Reply}
+use Rattle.tool_cli.specs.Replies.{Out}
 
 -- the status is that of a reply, and tells of no fault and no want of memory
 abbrev pub IsReply : Status → Type 0

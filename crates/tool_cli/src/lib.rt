@@ -8,8 +8,9 @@ pub mod command;
 mod edges;
 mod passes;
 mod prepared;
+mod refusals;
 pub mod run;
 pub mod status;
 
-pub use run::{law_one_reply, run_single, run_sure};
+pub use run::{law_commands, law_one_reply, run_single, run_sure};
 pub use status::Status;

@@ -1,11 +1,12 @@
 //! The reply before it is written.
 
 ghost use Rattle.std.specs.Prelude.{◌≡◌, [], ◌++◌, codes, IfOk};
-ghost use Rattle.tool_cli.specs.Replies.{refusal};
+ghost use Rattle.tool_cli.specs.Told.{refusal};
 
 use crate::status::Status;
-use std::alloc::{AllocError, Global};
+use std::alloc::Global;
 use std::marker::Model;
+use tree_model::{Bytes, NoMemory};
 
 /// The text for each output, and the status.
 #[derive(Drop)]
@@ -16,7 +17,7 @@ pub struct Prepared {
 }
 
 impl Model for Prepared {
-    ghost use Rattle.tool_cli.specs.Replies.{Reply};
+    ghost use Rattle.tool_cli.specs.Told.{Reply};
 
     ghost Value = { Reply };
 
@@ -24,14 +25,21 @@ impl Model for Prepared {
 }
 
 /// Nothing on `out`, and the line of `text` on `diag`.
-pub fn refuse(alloc: Global, status: Status, text: &str) -> Result<Prepared, AllocError>
+pub fn refuse(alloc: Global, status: Status, text: &str) -> Result<Prepared, NoMemory>
     ensures { IfOk result (λ p. p ≡ refusal status text.now) }
 {
-    let mut diag = Vec::from_slice(alloc, text.as_bytes())?;
-    diag.push(b'\n')?;
+    let line = Bytes::from_slice(alloc, text.as_bytes())?;
+    refuse_line(alloc, status, line)
+}
+
+/// Nothing on `out`, and the line on `diag`.
+pub fn refuse_line(alloc: Global, status: Status, mut line: Bytes) -> Result<Prepared, NoMemory>
+    ensures { IfOk result (λ p. p ≡ refusal status line) }
+{
+    line.put_byte(b'\n')?;
     Ok(Prepared {
         out: Vec::new(alloc),
-        diag,
+        diag: line.into_vec(),
         status,
     })
 }

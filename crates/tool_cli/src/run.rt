@@ -3,19 +3,23 @@
 ghost use Rattle.std.specs.Prelude.{◌≡◌, ◌⊎◌, ℕ, ◌^◌, ◌≤◌, List, [], length, ⊤, Some, None, IfOk, IsErrOf, OnOk, OnErr};
 ghost use Rattle.std.specs.Io.KnownBytes.{IsAtEnd, Keeps};
 ghost use Rattle.edge_kit.specs.Edges.{Rose};
-ghost use Rattle.tool_cli.specs.Replies.{Reply, Out};
-ghost use Rattle.tool_cli.specs.Commands.{command_of};
+ghost use Rattle.tool_cli.specs.Told.{Reply};
+ghost use Rattle.tool_cli.specs.Replies.{Out};
+ghost use Rattle.module_reader.specs.Reads.{Reads};
+ghost use Rattle.tool_cli.specs.Commands.{Commands, command_of};
 ghost use Rattle.tool_cli.specs.Runs.{AreCommand, IsReply, RepliesTo, TakesAll, StopsEarly, RoseAlone, Spares, OneReply};
 
 use crate::command::{Command, command_of};
 use crate::edges::{read_input, write_all};
 use crate::passes::made_by;
 use crate::prepared::{Prepared, refuse, succeed};
+use crate::refusals::refused;
 use crate::status::Status;
 use edge_kit::{Sink, SinkFault, Source, SureSink, SureSource, Words};
 use generic_printer::print_tree;
-use generic_reader::read_first;
-use std::alloc::{AllocError, AllocFailed, Global};
+use module_reader::{ReadRefusal, read_tree};
+use std::alloc::{AllocError, Global};
+use tree_model::ModuleTree;
 
 /// Why there is no reply.
 pub enum Stop {
@@ -92,6 +96,11 @@ pub fn run_sure(
     run_single(alloc, words, input, out, diag)
 }
 
+/// The words in any order, each option at most once, are a command.
+pub fn law_commands()
+    ensures { Commands }
+{}
+
 /// At most one reply fits given words and a given input, so the status and both texts are theirs.
 pub fn law_one_reply()
     ensures { OneReply }
@@ -125,12 +134,27 @@ fn reply_to_text(alloc: Global, command: Command, text: &[u8]) -> Result<Prepare
     requires { length text.now ≤ 2 ^ 24 }
     ensures { (words : List (List ℕ)) → command_of words ≡ Some command → IfOk result (λ p. Out words text.now p) }
 {
-    match read_first(alloc, text)? {
+    match read_tree(alloc, text, command.allowed) {
+        Ok(source) => reply_to_module(alloc, command, text, source),
+        Err(ReadRefusal::At(found)) => refused(alloc, found),
+        Err(ReadRefusal::NoMemory) => Err(AllocError),
+    }
+}
+
+// The reply of a command to the module of a text.
+fn reply_to_module(
+    alloc: Global,
+    command: Command,
+    text: &[u8],
+    source: ModuleTree,
+) -> Result<Prepared, AllocError>
+    requires short { length text.now ≤ 2 ^ 24 }
+    requires read { Reads text.now command.allowed source }
+    ensures { (words : List (List ℕ)) → command_of words ≡ Some command → IfOk result (λ p. Out words text.now p) }
+{
+    match made_by(alloc, command.pass, source)? {
+        Some(made) => Ok(succeed(alloc, print_tree(alloc, &made)?)),
         None => refuse(alloc, Status::Refused, "refused: text at 0: NotBuilt"),
-        Some(source) => {
-            let made = made_by(alloc, command, source)?;
-            Ok(succeed(alloc, print_tree(alloc, &made)?))
-        }
     }
 }
 

@@ -1,4 +1,0 @@
-pub mod FirstLemmas
-pub mod ScopeLemmas
-pub mod UniqueLemmas
-pub mod WordLemmas
