@@ -2,15 +2,9 @@
 #![tactic(auto)]
 
 #[cfg(test)]
-mod conversion;
-#[cfg(test)]
 mod fixtures;
 #[cfg(test)]
 mod names;
-#[cfg(test)]
-mod printing;
-#[cfg(test)]
-mod rows;
 #[cfg(test)]
 mod shapes;
 #[cfg(test)]
