@@ -10,4 +10,6 @@ mod pipelines;
 #[cfg(test)]
 mod program;
 #[cfg(test)]
+mod texts;
+#[cfg(test)]
 mod tokens;

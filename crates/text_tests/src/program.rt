@@ -1,33 +1,18 @@
 //! The program as a whole: words and a text in, two texts and a status out.
 
+use crate::texts::{
+    INC, INC_ALONE, INC_CONVERTED, INC_PRINTED, KINDS, KINDS_PRINTED, SUM, SUM_PRINTED, THREE,
+    THREE_CONVERTED,
+};
 use edge_kit::{MemSink, MemSource, SureSink, SureSource, Words};
 use std::alloc::{AllocError, Global};
+use std::process::Abort;
 use std::test::Fail;
 use tool_cli::{Status, run_single, run_sure};
 
-const INC: &str =
-    "\"builtin.module\"() ({ \"func.func\"() <{function_type = (i32) -> i32, sym_name = \"inc\"}> ({ ^bb0(%a: i32): %o = \"arith.constant\"() <{value = 1 : i32}> : () -> i32 %s = \"arith.addi\"(%a, %o) <{overflowFlags = #arith.overflow<none>}> : (i32, i32) -> i32 \"func.return\"(%s) : (i32) -> () }) : () -> () }) : () -> ()";
+const CONVERT: &str = "--pass-pipeline=builtin.module(convert-arith-to-llvm)";
 
-const INC_PRINTED: &str = "\"builtin.module\"() ({
-  \"func.func\"() <{function_type = (i32) -> i32, sym_name = \"inc\"}> ({
-  ^bb0(%arg0: i32):
-    %0 = \"arith.constant\"() <{value = 1 : i32}> : () -> i32
-    %1 = \"arith.addi\"(%arg0, %0) <{overflowFlags = #arith.overflow<none>}> : (i32, i32) -> i32
-    \"func.return\"(%1) : (i32) -> ()
-  }) : () -> ()
-}) : () -> ()
-";
-
-const NOT_BUILT: &str = "refused: text at 0: NotBuilt\n";
-
-// The text of `inc` with its first `old` replaced by `new`.
-fn inc_with(alloc: Global, old: &str, new: &str) -> Result<String, AllocError> {
-    let (front, back) = INC.split_once(old).unwrap_or((INC, ""));
-    let mut text = String::from_str(alloc, front)?;
-    text.push_str(new)?;
-    text.push_str(back)?;
-    Ok(text)
-}
+const ALLOW: &str = "--allow-unregistered-dialect";
 
 #[derive(Drop)]
 struct Answer {
@@ -36,10 +21,10 @@ struct Answer {
     diag: SureSink,
 }
 
-// What the program answers to one word or none, and a text.
-fn run_on(alloc: Global, word: &str, text: &str) -> Result<Answer, AllocError> {
+// What the program answers to words and a text.
+fn run_on(alloc: Global, list: &[&str], text: &str) -> Result<Answer, AllocError> {
     let mut words = Words::new(alloc);
-    if !word.is_empty() {
+    for word in list {
         words.push(alloc, word)?;
     }
     let mut input = SureSource::new(Vec::from_slice(alloc, text.as_bytes())?);
@@ -49,210 +34,170 @@ fn run_on(alloc: Global, word: &str, text: &str) -> Result<Answer, AllocError> {
     Ok(Answer { status, out, diag })
 }
 
+// The program prints this module, and tells nothing.
+fn prints(
+    rt: &impl Abort,
+    alloc: Global,
+    words: &[&str],
+    text: &str,
+    expected: &str,
+) -> Result<(), AllocError> {
+    let Answer { status, out, diag } = run_on(alloc, words, text)?;
+    assert_eq!(rt; diag.bytes(), b"".as_slice());
+    assert_eq!(rt; out.bytes(), expected.as_bytes());
+    assert_eq!(rt; status, Status::Ok);
+    Ok(())
+}
+
+// The program prints nothing, and tells this line.
+fn tells(
+    rt: &impl Abort,
+    alloc: Global,
+    words: &[&str],
+    text: &str,
+    line: &str,
+    expected: Status,
+) -> Result<(), AllocError> {
+    let Answer { status, out, diag } = run_on(alloc, words, text)?;
+    assert_eq!(rt; out.bytes(), b"".as_slice());
+    assert_eq!(rt; diag.bytes(), line.as_bytes());
+    assert_eq!(rt; status, expected);
+    Ok(())
+}
+
 #[test]
 fn an_empty_module_is_printed_with_its_label(rt: HostRuntime) -> Result<(), Fail> {
-    let Answer { status, out, diag } = run_on(
-        rt.alloc(),
-        "",
-        "\"builtin.module\"() ({}) : () -> ()",
-    )?;
-    assert_eq!(rt; status, Status::Ok);
-    assert_eq!(rt;
-        out.bytes(),
-        b"\"builtin.module\"() ({\n^bb0:\n}) : () -> ()\n".as_slice()
-    );
-    assert_eq!(rt; diag.bytes(), b"".as_slice());
+    let printed = "\"builtin.module\"() ({\n^bb0:\n}) : () -> ()\n";
+    for text in ["", "\"builtin.module\"() ({}) : () -> ()"] {
+        prints(&rt, rt.alloc(), &[], text, printed)?;
+    }
     Ok(())
 }
 
 #[test]
 fn a_module_is_printed_in_the_layout(rt: HostRuntime) -> Result<(), Fail> {
-    for text in [INC, INC_PRINTED] {
-        let Answer { status, out, diag } = run_on(rt.alloc(), "", text)?;
-        assert_eq!(rt; status, Status::Ok);
-        assert_eq!(rt; out.bytes(), INC_PRINTED.as_bytes());
-        assert_eq!(rt; diag.bytes(), b"".as_slice());
+    for text in [INC, INC_PRINTED, INC_ALONE] {
+        prints(&rt, rt.alloc(), &[], text, INC_PRINTED)?;
     }
     Ok(())
 }
 
 #[test]
-fn texts_one_token_away_are_told_apart(rt: HostRuntime) -> Result<(), Fail> {
-    for (old, new, accepted) in [
-        ("%a: i32", "%a :i32", true),
-        ("^bb0", "^entry-1", true),
-        ("({ ^bb0", "({^bb0", true),
-        ("= 1 :", "=-1:", true),
-        ("= 1 :", "= - 1 :", true),
-        ("= 1 :", "= 4294967295 :", true),
-        ("= 1 :", "= -2147483648 :", true),
-        ("= 1 :", "= 007 :", true),
-        ("<{overflowFlags = #arith.overflow<none>}>", "", true),
-        ("<{value", "< { value", true),
-        ("sym_name", "// a comment\n\tsym_name", true),
-        ("\"inc\"", "\"func.func\"", true),
-        ("\"inc\"", "\"_9.$\"", true),
-        ("(%s)", "(%o)", true),
-        ("(%a, %o)", "(%o, %o)", true),
-        ("({ \"func", "({ ^m: \"func", true),
-        ("= 1 :", "= 4294967296 :", false),
-        ("= 1 :", "= -2147483649 :", false),
-        ("= 1 :", "= 0x1 :", false),
-        ("1 : i32", "1 : i64", false),
-        ("(%a, %o)", "(%a, %s)", false),
-        ("(%a, %o)", "(%a, %x)", false),
-        ("(%a, %o)", "(%a)", false),
-        ("%s = ", "%o = ", false),
-        ("%o = ", "%a = ", false),
-        ("-> i32, sym", "-> (i32), sym", false),
-        ("(i32) -> i32,", "() -> i32,", false),
-        ("(i32) -> i32,", "(i32, i32) -> i32,", false),
-        ("^bb0(%a: i32):", "", false),
-        ("^bb0(%a: i32):", "^bb0(%a: i32, %b: i32):", false),
-        ("^bb0(%a: i32):", "^bb0():", false),
+fn all_kinds_of_types_and_attributes_are_printed(rt: HostRuntime) -> Result<(), Fail> {
+    for text in [KINDS, KINDS_PRINTED] {
+        prints(&rt, rt.alloc(), &[ALLOW], text, KINDS_PRINTED)?;
+    }
+    Ok(())
+}
+
+#[test]
+fn loops_calls_and_memory_are_printed(rt: HostRuntime) -> Result<(), Fail> {
+    for text in [SUM, SUM_PRINTED] {
+        prints(&rt, rt.alloc(), &[], text, SUM_PRINTED)?;
+    }
+    Ok(())
+}
+
+#[test]
+fn a_text_that_is_no_module_is_told_by_its_byte_and_kind(rt: HostRuntime) -> Result<(), Fail> {
+    for (text, line) in [
+        ("x", "refused: text at 0: Expected\n"),
+        ("\"builtin.modul", "refused: text at 0: OpenString\n"),
+        ("\"t.x\"() : () -> ()", "refused: text at 0: ModuleShape\n"),
+        (
+            "\"func.func\"() <{function_type = () -> (), sym_name = \"f\"}> ({ \"t.x\"() : () -> () }) : () -> ()",
+            "refused: text at 62: UnknownOperation\n",
+        ),
+        (
+            "\"func.func\"() <{function_type = () -> (), sym_name = \"f\"}> ({ %a = \"arith.constant\"() <{value = 300 : i8}> : () -> i8 \"func.return\"() : () -> () }) : () -> ()",
+            "refused: text at 96: IntegerRange\n",
+        ),
+        (
+            "\"func.func\"() <{function_type = () -> (), sym_name = \"f\"}> ({ \"func.return\"(%a) : () -> () }) : () -> ()",
+            "refused: text at 82: TypeCount\n",
+        ),
+        (
+            "\"func.func\"() <{function_type = () -> (), sym_name = \"f\"}> ({ %a = \"arith.constant\"() <{value = 3 : i8}> : () -> i8 \"func.return\"(%a) : (i16) -> () }) : () -> ()",
+            "refused: text at 136: UseType\n",
+        ),
+        (
+            "\"func.func\"() <{function_type = () -> (), sym_name = \"f\"}> ({ %a = \"arith.constant\"() <{value = 3 : i8}> : () -> i8 \"func.return\"(%a#1) : (i8) -> () }) : () -> ()",
+            "refused: text at 138: ResultIndex\n",
+        ),
+        (
+            "\"func.func\"() <{function_type = () -> (), sym_name = \"f\"}> ({ \"func.return\"(%a) : (i8) -> () }) : () -> ()",
+            "refused: text at 76: UndefinedValue\n",
+        ),
+        (
+            "\"func.func\"() <{function_type = () -> (), sym_name = \"f\"}> ({ \"cf.br\"()[^b] : () -> () }) : () -> ()",
+            "refused: text at 72: UndefinedBlock\n",
+        ),
+        (
+            "\"func.func\"() ({}) : () ->",
+            "refused: text at 26: Expected\n",
+        ),
     ] {
-        let text = inc_with(rt.alloc(), old, new)?;
-        let Answer { status, .. } = run_on(rt.alloc(), "", text.as_str())?;
-        let expected = if accepted {
-            Status::Ok
-        } else {
-            Status::Refused
-        };
-        assert_eq!(rt; status, expected, "{old} as {new}");
+        tells(&rt, rt.alloc(), &[], text, line, Status::Refused)?;
     }
     Ok(())
 }
 
-#[test]
-fn texts_that_are_none_get_one_line(rt: HostRuntime) -> Result<(), Fail> {
-    for (old, new) in [
-        ("\"inc\"", "\"malloc\""),
-        ("\"inc\"", "\"free\""),
-        ("\"inc\"", "\"aligned_alloc\""),
-        ("\"inc\"", "\"in c\""),
-        ("\"inc\"", "\"\""),
-        ("\"inc\"", "\"1nc\""),
-        ("\"inc\"", "\"inc"),
-        ("none", "nsw"),
-        ("arith.addi", "arith.subi"),
-        ("sym_name", "x = 1, sym_name"),
-        ("\"builtin.module\"", "x \"builtin.module\""),
-        ("}) : () -> () })", "})"),
-        (INC, ""),
-    ] {
-        let text = inc_with(rt.alloc(), old, new)?;
-        let Answer { status, out, diag } = run_on(rt.alloc(), "", text.as_str())?;
-        assert_eq!(rt; status, Status::Refused, "{old} as {new}");
-        assert_eq!(rt; out.bytes(), b"".as_slice());
-        assert_eq!(rt; diag.bytes(), NOT_BUILT.as_bytes());
+// A text of so many regions in one another, the module's among them.
+fn nested(alloc: Global, depth: usize) -> Result<String, AllocError> {
+    let mut text = String::new(alloc);
+    text.push_str("\"func.func\"() ({ ")?;
+    for _ in 2..depth {
+        text.push_str("\"t.x\"() ({ ")?;
     }
-    Ok(())
+    for _ in 1..depth {
+        text.push_str("}) : () -> () ")?;
+    }
+    Ok(text)
 }
 
-const NINE: &str =
-    "\"func.func\"() <{function_type = () -> i32, sym_name = \"nine\"}> ({ %n = \"arith.constant\"() <{value = 9 : i32}> : () -> i32 \"func.return\"(%n) : (i32) -> () }) : () -> ()";
-
 #[test]
-fn functions_are_distinct_and_number_their_values_each(rt: HostRuntime) -> Result<(), Fail> {
-    let mut text = String::from_str(rt.alloc(), "\"builtin.module\"() ({ ")?;
-    text.push_str(NINE)?;
-    let mut twice = text.clone()?;
-    twice.push_str(NINE)?;
-    text.push_str("}) : () -> ()")?;
-    twice.push_str("}) : () -> ()")?;
-    let Answer { status, out, .. } = run_on(rt.alloc(), "", text.as_str())?;
+fn regions_are_read_up_to_a_depth(rt: HostRuntime) -> Result<(), Fail> {
+    let deep = nested(rt.alloc(), 64)?;
+    let Answer { status, .. } = run_on(rt.alloc(), &[ALLOW], &deep)?;
     assert_eq!(rt; status, Status::Ok);
-    assert_eq!(rt;
-        out.bytes(),
-        b"\"builtin.module\"() ({
-  \"func.func\"() <{function_type = () -> i32, sym_name = \"nine\"}> ({
-    %0 = \"arith.constant\"() <{value = 9 : i32}> : () -> i32
-    \"func.return\"(%0) : (i32) -> ()
-  }) : () -> ()
-}) : () -> ()
-"
-            .as_slice()
-    );
-    let Answer { status, .. } = run_on(rt.alloc(), "", twice.as_str())?;
-    assert_eq!(rt; status, Status::Refused);
+    let deeper = nested(rt.alloc(), 65)?;
+    let line = "limit: region depth 64\n";
+    tells(&rt, rt.alloc(), &[ALLOW], &deeper, line, Status::Limit)?;
     Ok(())
 }
-
-#[test]
-fn a_word_is_a_faulty_command_line(rt: HostRuntime) -> Result<(), Fail> {
-    let Answer { status, out, diag } = run_on(rt.alloc(), "x", INC)?;
-    assert_eq!(rt; status, Status::Usage);
-    assert_eq!(rt; out.bytes(), b"".as_slice());
-    assert_eq!(rt;
-        diag.bytes(),
-        b"usage: the words are not in the command set\n".as_slice()
-    );
-    Ok(())
-}
-
-const CONVERT: &str = "--pass-pipeline=builtin.module(convert-arith-to-llvm)";
-
-const INC_CONVERTED: &str = "\"builtin.module\"() ({
-  \"func.func\"() <{function_type = (i32) -> i32, sym_name = \"inc\"}> ({
-  ^bb0(%arg0: i32):
-    %0 = \"llvm.mlir.constant\"() <{value = 1 : i32}> : () -> i32
-    %1 = \"llvm.add\"(%arg0, %0) <{overflowFlags = #llvm.overflow<none>}> : (i32, i32) -> i32
-    \"func.return\"(%1) : (i32) -> ()
-  }) : () -> ()
-}) : () -> ()
-";
 
 #[test]
 fn the_pass_converts_constants_and_additions(rt: HostRuntime) -> Result<(), Fail> {
-    let Answer { status, out, diag } = run_on(rt.alloc(), CONVERT, INC)?;
-    assert_eq!(rt; status, Status::Ok);
-    assert_eq!(rt; out.bytes(), INC_CONVERTED.as_bytes());
-    assert_eq!(rt; diag.bytes(), b"".as_slice());
-    let Answer { status, out, .. } = run_on(rt.alloc(), "--pass-pipeline=builtin.module()", INC)?;
-    assert_eq!(rt; status, Status::Ok);
-    assert_eq!(rt; out.bytes(), INC_PRINTED.as_bytes());
+    prints(&rt, rt.alloc(), &[CONVERT], INC, INC_CONVERTED)?;
+    prints(&rt, rt.alloc(), &[ALLOW, CONVERT], THREE, THREE_CONVERTED)?;
+    prints(
+        &rt,
+        rt.alloc(),
+        &["--pass-pipeline=builtin.module()"],
+        INC,
+        INC_PRINTED,
+    )?;
     Ok(())
 }
 
-const THREE: &str = "\"builtin.module\"() ({
-  \"func.func\"() <{function_type = () -> i32, sym_name = \"one\"}> ({
-    %0 = \"arith.constant\"() <{value = 1 : i32}> : () -> i32
-    \"func.return\"(%0) : (i32) -> ()
-  }) : () -> ()
-  \"func.func\"() <{function_type = (i32) -> i32, sym_name = \"same\"}> ({
-  ^bb0(%arg0: i32):
-    \"func.return\"(%arg0) : (i32) -> ()
-  }) : () -> ()
-  \"func.func\"() <{function_type = (i32) -> i32, sym_name = \"twice\"}> ({
-  ^bb0(%arg0: i32):
-    %0 = \"arith.addi\"(%arg0, %arg0) : (i32, i32) -> i32
-    \"func.return\"(%0) : (i32) -> ()
-  }) : () -> ()
-}) : () -> ()
-";
-
-const THREE_CONVERTED: &str = "\"builtin.module\"() ({
-  \"func.func\"() <{function_type = () -> i32, sym_name = \"one\"}> ({
-    %0 = \"llvm.mlir.constant\"() <{value = 1 : i32}> : () -> i32
-    \"func.return\"(%0) : (i32) -> ()
-  }) : () -> ()
-  \"func.func\"() <{function_type = (i32) -> i32, sym_name = \"same\"}> ({
-  ^bb0(%arg0: i32):
-    \"func.return\"(%arg0) : (i32) -> ()
-  }) : () -> ()
-  \"func.func\"() <{function_type = (i32) -> i32, sym_name = \"twice\"}> ({
-  ^bb0(%arg0: i32):
-    %0 = \"llvm.add\"(%arg0, %arg0) : (i32, i32) -> i32
-    \"func.return\"(%0) : (i32) -> ()
-  }) : () -> ()
-}) : () -> ()
-";
+#[test]
+fn the_pass_is_not_there_for_other_modules(rt: HostRuntime) -> Result<(), Fail> {
+    let line = "refused: text at 0: NotBuilt\n";
+    tells(&rt, rt.alloc(), &[CONVERT], SUM, line, Status::Refused)?;
+    Ok(())
+}
 
 #[test]
-fn functions_without_arith_stand_as_they_were(rt: HostRuntime) -> Result<(), Fail> {
-    let Answer { status, out, .. } = run_on(rt.alloc(), CONVERT, THREE)?;
-    assert_eq!(rt; status, Status::Ok);
-    assert_eq!(rt; out.bytes(), THREE_CONVERTED.as_bytes());
+fn words_that_are_no_command_are_told(rt: HostRuntime) -> Result<(), Fail> {
+    let line = "usage: the words are not in the command set\n";
+    for words in [
+        ["x", ALLOW],
+        [ALLOW, ALLOW],
+        [CONVERT, CONVERT],
+        [CONVERT, ""],
+    ] {
+        tells(&rt, rt.alloc(), &words, INC, line, Status::Usage)?;
+    }
     Ok(())
 }
 
@@ -271,11 +216,11 @@ fn word_away(alloc: Global, word: &str, at: usize, with: &str) -> Result<String,
 
 #[test]
 fn words_one_character_away_are_faulty(rt: HostRuntime) -> Result<(), Fail> {
-    for word in ["--pass-pipeline=builtin.module()", CONVERT] {
+    for word in ["--pass-pipeline=builtin.module()", CONVERT, ALLOW] {
         for at in 0..word.len() {
             for with in ["", "*"] {
                 let changed = word_away(rt.alloc(), word, at, with)?;
-                let Answer { status, .. } = run_on(rt.alloc(), changed.as_str(), INC)?;
+                let Answer { status, .. } = run_on(rt.alloc(), &[changed.as_str()], "")?;
                 assert_eq!(rt; status, Status::Usage, "{changed}");
             }
         }
