@@ -78,11 +78,12 @@ FitIfRoot table o = is_root table o.name ≡ true → IsFit o
 abbrev pub step_shape : Step → List PlainType → Shape
 step_shape x types = record { name = x.name; operands = types; results = x.makes; props = x.props; attrs = []; successors = length x.successors; regions = 0 }
 
--- so is each step of a template over operands of these types, where values of those types were made before
+-- each step of a template over operands of these types, where values of those types were made before, takes what is there, and
+-- so is its operation
 abbrev pub StepsFit : List Pattern → List PlainType → List Step → List PlainType → Type 0
 StepsFit table operands [] made = ⊤
 StepsFit table operands (x ∷ xs) made =
-    ((types : List PlainType) → items_of operands made x.sources ≡ Some types → FitIfRoot table (step_shape x types)) × StepsFit table operands xs (made ++ x.makes)
+    ((types : List PlainType) × (items_of operands made x.sources ≡ Some types) × FitIfRoot table (step_shape x types)) × StepsFit table operands xs (made ++ x.makes)
 
 -- the types behind a change
 abbrev pub all_changed : (PlainType → Option PlainType) → List PlainType → List PlainType
