@@ -1,0 +1,12 @@
+pub mod Sources
+pub mod Alone
+pub mod Values
+pub mod Forms
+pub mod Fits
+pub mod Steps
+pub mod Lowered
+pub mod Extremes
+pub mod Casts
+pub mod Constants
+pub mod ArithSet
+pub mod Sets
