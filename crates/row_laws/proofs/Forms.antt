@@ -36,13 +36,16 @@ level_of name es = ap (λ p. if_some p (λ a. Some (out-AttrTree a))) (property_
     go (Some a) = refl
 
 -- a property that is kept
-pub kept_level : (name : List ℕ) (props es : Entries) → bytes_eq name name ≡ true → kept_props name (entry name props) ≡ Some es
-    → level name (entries_tree es) ≡ level name (entries_tree props)
-kept_level name props es same kept = level_of name es ∙ ap (option_map (λ a. out-AttrTree (attr_tree a))) (go (entry name props) kept) ∙ sym (level_of name props)
+pub kept_entry : (name : List ℕ) (props es : Entries) → bytes_eq name name ≡ true → kept_props name (entry name props) ≡ Some es → entry name es ≡ entry name props
+kept_entry name props es same = go (entry name props)
   where
     go : (a : Option PlainAttr) → kept_props name a ≡ Some es → entry name es ≡ a
     go None k = absurd (none_is k)
     go (Some a) k = ap (entry name) (sym (of_some k)) ∙ ap (λ b. if b then Some a else None) same
+
+pub kept_level : (name : List ℕ) (props es : Entries) → bytes_eq name name ≡ true → kept_props name (entry name props) ≡ Some es
+    → level name (entries_tree es) ≡ level name (entries_tree props)
+kept_level name props es same kept = level_of name es ∙ ap (option_map (λ a. out-AttrTree (attr_tree a))) (kept_entry name props es same kept) ∙ sym (level_of name props)
 
 -- flags that are kept
 pub kept_flags : (props es : Entries) → flag_props (entry (codes "overflowFlags") props) ≡ Some es → flags_of (entries_tree es) ≡ flags_of (entries_tree props)

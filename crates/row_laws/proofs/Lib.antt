@@ -9,4 +9,8 @@ pub mod Extremes
 pub mod Casts
 pub mod Constants
 pub mod ArithSet
+pub mod StepFits
+pub mod Expanded
+pub mod ExpandSet
+pub mod CfSet
 pub mod Sets

@@ -5,4 +5,4 @@
 
 mod laws;
 
-pub use laws::law_arith_rows;
+pub use laws::{law_arith_rows, law_cf_rows, law_expand_rows};
