@@ -1,0 +1,4 @@
+pub mod Examples
+pub mod Extremes
+pub mod Readings
+pub mod Quotients
