@@ -1,5 +1,5 @@
 -- The operations of a text, from the right: each word adds to what stands behind it in its region.
-use Rattle.std.specs.Prelude.{ℕ, suc, List, [], ◌∷◌}
+use Rattle.std.specs.Prelude.{ℕ, ◌+◌, List, [], ◌∷◌}
 use Rattle.text_grammar.specs.declared.places.Place.TheVariants as places
 use Rattle.tree_model.specs.declared.type_tree.TypeTree.{TypeTree}
 use Rattle.tree_model.specs.declared.op_tree.OpTree.{OpTree, roll-OpTree}
@@ -14,15 +14,22 @@ use Rattle.event_trees.specs.Dictionaries.{props_of, attrs_of}
 use Rattle.event_trees.specs.Attrs.{written_of}
 use Rattle.event_trees.specs.Roles.{Role}
 
--- what stands behind a word, in its region
-pub record Level : Type 0 where
-  -- of the operation in whose parts the word stands: those behind it
+-- the parts of an operation that stand behind a word in it
+pub record Parts : Type 0 where
   pub operands : List ℕ
   pub successors : List ℕ
   pub props : Term
   pub regions : List RegionTree
   pub attrs : Term
   pub signature : Term
+
+abbrev pub no_parts : Parts
+no_parts = record { operands = []; successors = []; props = nothing; regions = []; attrs = nothing; signature = nothing }
+
+-- what stands behind a word, in its region
+pub record Level : Type 0 where
+  -- of the operation in which the word stands
+  pub parts : Parts
   -- of the block: its arguments and operations
   pub args : List (ℕ × TypeTree)
   pub ops : List OpTree
@@ -30,7 +37,7 @@ pub record Level : Type 0 where
   pub blocks : List BlockTree
 
 abbrev pub empty : Level
-empty = record { operands = []; successors = []; props = nothing; regions = []; attrs = nothing; signature = nothing; args = []; ops = []; blocks = [] }
+empty = record { parts = no_parts; args = []; ops = []; blocks = [] }
 
 -- the same of this region and of each one around it, the innermost first
 abbrev pub Levels : Type 0
@@ -40,33 +47,36 @@ abbrev pub on_first : (Level → Level) → Levels → Levels
 on_first f [] = []
 on_first f (l ∷ ls) = f l ∷ ls
 
--- The parts of an operation
+abbrev pub on_parts : (Parts → Parts) → Level → Level
+on_parts f l = record l { parts = f l.parts }
+
+-- Operations
 
 -- values of these types, with numbers from the first one on
 abbrev pub numbered : ℕ → List TypeTree → List (ℕ × TypeTree)
 numbered n [] = []
-numbered n (t ∷ ts) = (n, t) ∷ numbered (suc n) ts
+numbered n (t ∷ ts) = (n, t) ∷ numbered (n + 1) ts
 
 -- the types of the results of a function type
 abbrev pub result_types : Term → List TypeTree
 result_types (node forms.Func _ inputs results) = type_trees (types_of results)
 result_types _ = []
 
--- the operation with this name, whose first result has this number, before the parts that stand behind the name
-abbrev pub op_named : Wording → Role → Level → OpTree
-op_named words r l = roll-OpTree (record {
-  name = words.spelled r.name;
-  results = numbered r.number (result_types l.signature);
-  operands = l.operands;
-  props = props_of (words.spelled r.name) (written_of words l.props) (written_of words l.attrs);
-  attrs = attrs_of (words.spelled r.name) (written_of words l.attrs);
-  regions = l.regions;
-  successors = l.successors;
+-- the operation with this name, whose first result has this number and whose parts stand behind the name
+abbrev pub op_named : Wording → ℕ → ℕ → Parts → OpTree
+op_named words name number p = roll-OpTree (record {
+  name = words.spelled name;
+  results = numbered number (result_types p.signature);
+  operands = p.operands;
+  props = props_of (words.spelled name) (written_of words p.props) (written_of words p.attrs);
+  attrs = attrs_of (words.spelled name) (written_of words p.attrs);
+  regions = p.regions;
+  successors = p.successors;
 })
 
--- it comes before the operations behind, and no part of another operation stands behind its first word
-abbrev pub with_op : OpTree → Level → Level
-with_op o l = record empty { args = l.args; ops = o ∷ l.ops; blocks = l.blocks }
+-- it comes before the operations behind, and before it no part of an operation has come
+abbrev pub with_op : Wording → ℕ → ℕ → Level → Level
+with_op words name number l = record l { parts = no_parts; ops = op_named words name number l.parts ∷ l.ops }
 
 -- Blocks and regions
 
@@ -75,7 +85,7 @@ block_labelled label l = roll-BlockTree (record { label = label; args = l.args; 
 
 -- a block begins at its label
 abbrev pub with_block : ℕ → Level → Level
-with_block label l = record empty { blocks = block_labelled label l ∷ l.blocks }
+with_block label l = record empty { parts = l.parts; blocks = block_labelled label l ∷ l.blocks }
 
 -- operations before the first label are a block
 abbrev pub region_blocks : ℕ → List OpTree → List BlockTree → List BlockTree
@@ -86,8 +96,11 @@ abbrev pub region_opened : ℕ → Level → RegionTree
 region_opened label l = roll-RegionTree (record { blocks = region_blocks label l.ops l.blocks })
 
 -- a region begins: it comes before the regions behind it in its operation
+abbrev pub with_region : RegionTree → Level → Level
+with_region r l = on_parts (λ p. record p { regions = r ∷ p.regions }) l
+
 abbrev pub closed_over : ℕ → Levels → Levels
-closed_over label (inner ∷ outer ∷ ls) = record outer { regions = region_opened label inner ∷ outer.regions } ∷ ls
+closed_over label (inner ∷ outer ∷ ls) = with_region (region_opened label inner) outer ∷ ls
 closed_over label ls = ls
 
 -- Words
@@ -95,12 +108,12 @@ closed_over label ls = ls
 -- with a word before what stands behind it
 abbrev pub with_word : Wording → Role → Levels → Levels
 with_word words r ls = elim r.place [
-  | places.OpName ↦ on_first (λ l. with_op (op_named words r l) l) ls
-  | places.UseName ↦ on_first (λ l. record l { operands = r.number ∷ l.operands }) ls
-  | places.SuccessorName ↦ on_first (λ l. record l { successors = r.number ∷ l.successors }) ls
-  | places.PropsOpen ↦ on_first (λ l. record l { props = r.term }) ls
-  | places.DictOpen ↦ on_first (λ l. record l { attrs = r.term }) ls
-  | places.SignatureOpen ↦ on_first (λ l. record l { signature = r.term }) ls
+  | places.OpName ↦ on_first (with_op words r.name r.number) ls
+  | places.UseName ↦ on_first (on_parts (λ p. record p { operands = r.number ∷ p.operands })) ls
+  | places.SuccessorName ↦ on_first (on_parts (λ p. record p { successors = r.number ∷ p.successors })) ls
+  | places.PropsOpen ↦ on_first (on_parts (λ p. record p { props = r.term })) ls
+  | places.DictOpen ↦ on_first (on_parts (λ p. record p { attrs = r.term })) ls
+  | places.SignatureOpen ↦ on_first (on_parts (λ p. record p { signature = r.term })) ls
   | places.ArgName ↦ on_first (λ l. record l { args = (r.number, type_tree (type_of r.term)) ∷ l.args }) ls
   | places.BlockLabel ↦ on_first (with_block r.number) ls
   | places.RegionClose ↦ empty ∷ ls

@@ -7,11 +7,11 @@ use Rattle.term_table.specs.declared.node.Form.TheVariants as forms
 use Rattle.term_table.specs.Terms.{Term, node}
 use Rattle.text_types.specs.Items.{place_next}
 use Rattle.text_scopes.specs.declared.bodies.Class.{Class}
-use Rattle.text_scopes.specs.declared.bodies.Body.{Body}
 use Rattle.text_scopes.specs.declared.steps.Step.{Step}
 use Rattle.text_scopes.specs.declared.steps.Step.TheVariants as steps
 use Rattle.text_scopes.specs.Bodies.{behind, outside}
 use Rattle.text_scopes.specs.Tables.{value_step}
+use Rattle.event_trees.specs.declared.counts.Counts.{Counts}
 use Rattle.event_trees.specs.Wording.{Wording}
 
 -- How many results each operation has
@@ -49,13 +49,6 @@ result_counts (e ∷ es) [] = []
 result_counts (e ∷ es) (t ∷ ts) = first_count (waiting es ts) ∷ result_counts es ts
 
 -- The numbers at definitions
-
--- where an event stands, and how many values and labels stand before it in its function; of the results of the operation that comes, so many are named
-pub record Counts : Type 0 where
-  pub body : Body
-  pub values : ℕ
-  pub named : ℕ
-  pub labels : ℕ
 
 abbrev pub no_counts : Counts
 no_counts = record { body = outside; values = 0; named = 0; labels = 0 }
