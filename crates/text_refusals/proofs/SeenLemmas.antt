@@ -55,7 +55,7 @@ same_seen : (w v : List Word) (f g : Option LexFault) (p q : List Place) (a b : 
     → ◌≡◌ {A = Seen} (record { words = w; fault = f; places = p; whole = a; refusal = r }) (record { words = v; fault = g; places = q; whole = b; refusal = u })
 same_seen w v f g p q a b r u ww ff pp aa rr = rw (ww, ff, pp, aa, rr) refl
 
-seen_once : (text : List ℕ) (s t : Seen) → IsSeen text s → IsSeen text t → s ≡ t
+pub seen_once : (text : List ℕ) (s t : Seen) → IsSeen text s → IsSeen text t → s ≡ t
 seen_once text s t a b =
     let cut = cut_once text s.words t.words s.fault t.fault a.words b.words in
     let places : s.places ≡ t.places = sym a.form.taken ∙ ap (λ ws. (run generic start (map kind_of ws)).0) cut.0 ∙ b.form.taken in
