@@ -1,0 +1,4 @@
+pub mod NumberLaws
+pub mod BuildLaws
+pub mod ReaderLaws
+pub mod FinishLaws
