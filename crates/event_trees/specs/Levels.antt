@@ -1,5 +1,6 @@
 -- The operations of a text, from the right: each word adds to what stands behind it in its region.
 use Rattle.std.specs.Prelude.{ℕ, ◌+◌, List, [], ◌∷◌}
+use Rattle.text_grammar.specs.declared.places.Place.{Place}
 use Rattle.text_grammar.specs.declared.places.Place.TheVariants as places
 use Rattle.tree_model.specs.declared.type_tree.TypeTree.{TypeTree}
 use Rattle.tree_model.specs.declared.op_tree.OpTree.{OpTree, roll-OpTree}
@@ -105,20 +106,34 @@ closed_over label ls = ls
 
 -- Words
 
--- with a word before what stands behind it
+-- a part of an operation before those behind it: an operand, a successor, or a dictionary or function type, whose term begins here
+abbrev pub with_part : Place → ℕ → Term → Parts → Parts
+with_part places.UseName number term p = record p { operands = number ∷ p.operands }
+with_part places.SuccessorName number term p = record p { successors = number ∷ p.successors }
+with_part places.PropsOpen number term p = record p { props = term }
+with_part places.DictOpen number term p = record p { attrs = term }
+with_part places.SignatureOpen number term p = record p { signature = term }
+with_part _ number term p = p
+
+-- an argument before the arguments and operations behind it
+abbrev pub with_arg : ℕ → Term → Level → Level
+with_arg number term l = record l { args = (number, type_tree (type_of term)) ∷ l.args }
+
+-- a word before what stands behind it in its region
+abbrev pub in_level : Wording → Role → Level → Level
+in_level words r l = elim r.place [
+  | places.OpName ↦ with_op words r.name r.number l
+  | places.ArgName ↦ with_arg r.number r.term l
+  | places.BlockLabel ↦ with_block r.number l
+  | _ ↦ on_parts (with_part r.place r.number r.term) l
+]
+
+-- a word before what stands behind it: read from the right, a region begins at its `}` and is whole at its `{`
 abbrev pub with_word : Wording → Role → Levels → Levels
 with_word words r ls = elim r.place [
-  | places.OpName ↦ on_first (with_op words r.name r.number) ls
-  | places.UseName ↦ on_first (on_parts (λ p. record p { operands = r.number ∷ p.operands })) ls
-  | places.SuccessorName ↦ on_first (on_parts (λ p. record p { successors = r.number ∷ p.successors })) ls
-  | places.PropsOpen ↦ on_first (on_parts (λ p. record p { props = r.term })) ls
-  | places.DictOpen ↦ on_first (on_parts (λ p. record p { attrs = r.term })) ls
-  | places.SignatureOpen ↦ on_first (on_parts (λ p. record p { signature = r.term })) ls
-  | places.ArgName ↦ on_first (λ l. record l { args = (r.number, type_tree (type_of r.term)) ∷ l.args }) ls
-  | places.BlockLabel ↦ on_first (with_block r.number) ls
   | places.RegionClose ↦ empty ∷ ls
   | places.RegionOpen ↦ closed_over r.number ls
-  | _ ↦ ls
+  | _ ↦ on_first (in_level words r) ls
 ]
 
 -- what stands behind the first word, with it
