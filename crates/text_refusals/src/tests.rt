@@ -117,6 +117,13 @@ fn numbers(rt: HostRuntime) -> Result<(), Fail> {
 fn entries_and_aliases(rt: HostRuntime) -> Result<(), Fail> {
     is(&rt, rt.alloc(), b"#a = {x, y, \"x\"}", 12, "DuplicateAttr")?;
     is(&rt, rt.alloc(), b"!a = i1 !a = i2", 8, "RedefinedAlias")?;
+    is(
+        &rt,
+        rt.alloc(),
+        b"!a = i16 #x = 300 : !a !a = i8",
+        23,
+        "RedefinedAlias",
+    )?;
     is(&rt, rt.alloc(), b"#a = [#b]", 6, "UnknownAlias")
 }
 
