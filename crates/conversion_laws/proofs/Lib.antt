@@ -4,3 +4,5 @@ pub mod Quiet
 pub mod Computed
 pub mod Arguments
 pub mod Trees
+pub mod Texts
+pub mod Stages

@@ -1,6 +1,6 @@
 -- The tree behind a conversion is one in which operations are replaced by lines that keep to them.
 use Rattle.std.proofs.Common.{◌≡◌, ◌⊎◌, inl, inr, ℕ, zero, suc, ◌+◌, ◌==◌, Bool, true, false, List, [], ◌∷◌, ◌++◌, Option, Some, None, length, map, get_or, refl, sym, ap, ◌∙◌, subst, arith, true≢false}
-use Rattle.std.specs.Prelude.{codes, slice_get, not, ◌&&◌, ◌||◌, if◌then◌else◌}
+use Rattle.std.specs.Prelude.{bytes_eq, codes, slice_get, not, ◌&&◌, ◌||◌, if◌then◌else◌}
 use Rattle.std.proofs.lemmas.Bool.{eqb-true}
 use Rattle.conversion_model.proofs.ReconcileLaws.{same_number}
 use Rattle.form_model.specs.Codes as code
@@ -9,7 +9,7 @@ use Rattle.plain_tree.specs.Ops.{Kind, Op, op, Ops, end_of_ops, more_ops, Region
 use Rattle.conversion_model.specs.declared.templates.Source.{Source}
 use Rattle.conversion_model.specs.declared.templates.Source.TheVariants.{Operand, Made}
 use Rattle.conversion_model.specs.Types.{new_type}
-use Rattle.conversion_model.specs.Templates.{Step, Template, copies, copy, labels_at, named, number_of, numbers, steps_written, values_made, written}
+use Rattle.conversion_model.specs.Templates.{Step, Template, copies, copy, copy_name, labels_at, named, number_of, numbers, steps_written, values_made, written}
 use Rattle.conversion_model.specs.Targets.{Shape, demanded, is_legal, shape_of}
 use Rattle.conversion_model.specs.Chosen.{chosen}
 use Rattle.conversion_model.specs.Items.{op_size, ops_size, blocks_size}
@@ -180,6 +180,11 @@ values_of_types t (v ∷ vs) is = (heads is, values_of_types t vs (tails is))
 
 -- What is asked of the source
 
+-- no step is a copy
+abbrev pub StepsBare : List Step → Type 0
+StepsBare [] = Unit {0}
+StepsBare (s ∷ steps) = (bytes_eq s.name copy_name ≡ false) × StepsBare steps
+
 module _ (p : Pass) (bits : ℕ) (new : Supply) (ty : ℕ → PlainType) (P Defined : ℕ → Type 0) where
   -- of an operation that is replaced
   pub record ReplacedOk (n : ℕ) (o : Shape) (rs : Values) (os : List ℕ) (regions : Regions) (t : Template) : Type 0 where
@@ -189,6 +194,7 @@ module _ (p : Pass) (bits : ℕ) (new : Supply) (ty : ℕ → PlainType) (P Defi
     pub many : length rs ≡ length t.results
     pub no_copies : copies (named (new.value n 0) (numbers rs) t.results) os rs t.results [] ≡ []
     pub no_regions : regions ≡ end_of_regions
+    pub bare : StepsBare t.steps
 
   -- of each operation
   pub record OpOk (n : ℕ) (o : Shape) (rs : Values) (os : List ℕ) (regions : Regions) : Type 0 where
@@ -223,7 +229,7 @@ module _ (p : Pass) (bits : ℕ) (new : Supply) (ty : ℕ → PlainType) (P Defi
     pub argument_new : (l k j : ℕ) → P j → (new.argument l k == j) ≡ false
 
   -- what stands for an operation, by the two ways
-  line_cases : (Q : List Op → Type 0) (n : ℕ) (o : Shape) (k : Kind) (rs : Values) (os : List ℕ) (regions : Regions) (ls : List ℕ) → Q (op k rs os regions ls ∷ [])
+  pub line_cases : (Q : List Op → Type 0) (n : ℕ) (o : Shape) (k : Kind) (rs : Values) (os : List ℕ) (regions : Regions) (ls : List ℕ) → Q (op k rs os regions ls ∷ [])
       → ((t : Template) → is_legal p.target o ≡ false → chosen bits p.target p.table [] o ≡ Some t → Q (written (new.value n 0) rs os ls t []))
       → Q (line_of p bits new (source_at n) o (op k rs os regions ls))
   line_cases Q n o k rs os regions ls kept by = go (not (demanded p.mode p.target o)) (is_legal p.target o) refl (chosen bits p.target p.table [] o) refl
