@@ -1,5 +1,5 @@
 -- One operation of the same form in place of the root.
-use Rattle.std.proofs.Common.{◌≡◌, ℕ, List, [], ◌∷◌, length, Some, Bool, true, false, refl, sym, subst, ◌∙◌, arith}
+use Rattle.std.proofs.Common.{◌≡◌, ℕ, List, [], ◌∷◌, length, Some, Bool, true, false, refl, sym, ap, subst, ◌∙◌, arith}
 use Rattle.std.specs.Prelude.{◌==◌, if◌then◌else◌}
 use Rattle.operation_model.specs.Values.{Value}
 use Rattle.operation_model.specs.Doings.{Doing, Outside}
@@ -25,14 +25,20 @@ counted_too results makes ys d e same h = subst (λ n. Refines (counted results 
     go true t = h (if_counted _ _ t ∙ sym same)
     go false t = tt
 
+-- an operation of a form, and what follows the same
+pub ends_form : (form : Form) (args : List Value) (labels : List ℕ) (results makes : List PlainType) (next rest : List Value → Doing)
+    → length makes ≡ length results → ((ys : List Value) → length ys ≡ length makes → rest ys ≡ next ys)
+    → Refines (operation_runs form results labels args next) (operation_runs form makes labels args rest)
+ends_form form args labels results makes next rest same all =
+    then_on_refines (does form labels args) _ _ λ ys.
+    counted_too results makes ys (next ys) (rest ys) same λ n. subst (λ d. Refines (next ys) d) (sym (all ys n)) (refines_refl (next ys))
+
 -- an operation of a form, whose results are those of the root
 same_form : (form : Form) (args : List Value) (labels : List ℕ) (results makes : List PlainType) (outs : List Source) (next : List Value → Doing)
     → length makes ≡ length results → ((ys : List Value) → length ys ≡ length makes → items_of args ys outs ≡ Some ys)
     → Refines (operation_runs form results labels args next) (operation_runs form makes labels args (λ ys. if_there (items_of args ys outs) next))
 same_form form args labels results makes outs next same all =
-    then_on_refines (does form labels args) _ _ λ ys.
-    counted_too results makes ys (next ys) (if_there (items_of args ys outs) next) same λ n.
-    subst (λ vs. Refines (next ys) (if_there vs next)) (sym (all ys n)) (refines_refl (next ys))
+    ends_form form args labels results makes next (λ ys. if_there (items_of args ys outs) next) same (λ ys n. ap (λ vs. if_there vs next) (all ys n))
 
 -- a template of one step
 abbrev pub alone : Step → List Source → Template

@@ -8,7 +8,8 @@ use Rattle.rule_model.specs.declared.shapes.Shape.TheVariants.{NumberConstant, T
 use Rattle.rule_model.specs.Facts.{Facts}
 use Rattle.rule_model.specs.Rows.{shape_of}
 use Rattle.rule_model.specs.Rules.{if_registered}
-use Rattle.rule_model.specs.Forms.{is_number}
+use Rattle.rule_model.specs.declared.shapes.Shape.{Shape as FitShape}
+use Rattle.rule_model.specs.Forms.{is_number, is_index}
 use Rattle.rule_model.specs.Types.{one_of, two_of, as_operand, operands_fit, results_fit}
 use Rattle.rule_model.specs.Parts.{attributes_fit, has_form, is_value_of}
 use Rattle.sound_model.specs.Soundness.{IsFit, facts_with}
@@ -101,3 +102,29 @@ of_numbers o name named shape fit =
     let f : Facts = facts_with o fit.successors fit.regions fit.holder fit.last in
     let is : shape_of o.name ≡ Some TwoNumbers = ap shape_of named ∙ shape in
     numbers_with o o.operands o.results refl refl (ap (if_registered (operands_fit f)) (sym is) ∙ fit.operands_are) (ap (if_registered (results_fit f)) (sym is) ∙ fit.results_are)
+
+-- what each rule asks, where the shape of the root is known
+module _ (o : Shape) (name : List ℕ) (s : FitShape) (named : o.name ≡ name) (known : shape_of name ≡ Some s) (fit : IsFit o) where
+  abbrev pub facts : Facts
+  facts = facts_with o fit.successors fit.regions fit.holder fit.last
+
+  is_known : shape_of o.name ≡ Some s
+  is_known = ap shape_of named ∙ known
+
+  pub fit_operands : operands_fit facts s ≡ true
+  fit_operands = ap (if_registered (operands_fit facts)) (sym is_known) ∙ fit.operands_are
+
+  pub fit_results : results_fit facts s ≡ true
+  fit_results = ap (if_registered (results_fit facts)) (sym is_known) ∙ fit.results_are
+
+  pub fit_props : attributes_fit facts s ≡ true
+  fit_props = ap (if_registered (attributes_fit facts)) (sym is_known) ∙ fit.props_are
+
+pub index_is : (t : PlainType) → is_index t ≡ true → t ≡ Index
+index_is Index h = refl
+index_is _ h = absurd (true≢false (sym h))
+
+-- one type that a test holds of
+pub one_that : (test : PlainType → Bool) (ts : List PlainType) → one_of test ts ≡ true → (t : PlainType) × (ts ≡ t ∷ []) × (test t ≡ true)
+one_that test (t ∷ []) h = (t, refl, h)
+one_that test _ h = absurd (true≢false (sym h))

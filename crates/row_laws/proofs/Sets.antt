@@ -10,7 +10,7 @@ use Rattle.row_laws.proofs.ExpandSet.{expand_sound}
 use Rattle.row_laws.proofs.ArithSet.{NoRoots, arith_sound}
 use Rattle.row_laws.proofs.CfSet.{cf_sound}
 
-is_width : (bits : ℕ) → IsWidth bits → width bits ≡ Some bits
+pub is_width : (bits : ℕ) → IsWidth bits → width bits ≡ Some bits
 is_width bits (inl e) = subst (λ n. width n ≡ Some n) (sym e) refl
 is_width bits (inr e) = subst (λ n. width n ≡ Some n) (sym e) refl
 

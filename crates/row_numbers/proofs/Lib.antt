@@ -2,3 +2,4 @@ pub mod Examples
 pub mod Extremes
 pub mod Readings
 pub mod Quotients
+pub mod Offsets
