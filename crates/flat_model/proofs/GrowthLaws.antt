@@ -73,7 +73,7 @@ module _ (H J : Handle → Key → Type 0) (V L : ℕ → ℕ → Type 0) (f g :
   pub values_later : Kept H J → Grown f g → (values : List ℕ) (trees : List (ℕ × TypeTree)) → AllZip (ValueShows H V f) values trees → AllZip (ValueShows J V g) values trees
   values_later k n values trees = zip_map (ValueShows H V f) (ValueShows J V g) (value_later k n) values trees
 
-  front_later : Kept H J → Grown f g → (node : OpNode) (tree : OpTree) → FrontShows H V L f node tree → FrontShows J V L g node tree
+  pub front_later : Kept H J → Grown f g → (node : OpNode) (tree : OpTree) → FrontShows H V L f node tree → FrontShows J V L g node tree
   front_later k n node tree s = record {
     name = s.name;
     results = values_later k n node.results (out-OpTree tree).results s.results;
@@ -83,7 +83,7 @@ module _ (H J : Handle → Key → Type 0) (V L : ℕ → ℕ → Type 0) (f g :
     successors = s.successors;
   }
 
-  block_front_later : Kept H J → Grown f g → (block : ℕ) (tree : BlockTree) → BlockFrontShows H V L f block tree → BlockFrontShows J V L g block tree
+  pub block_front_later : Kept H J → Grown f g → (block : ℕ) (tree : BlockTree) → BlockFrontShows H V L f block tree → BlockFrontShows J V L g block tree
   block_front_later k n block tree s = record {
     inside = let m = n.more_blocks in let i = s.inside in omega arith;
     label = s.label;

@@ -20,7 +20,7 @@ use Rattle.flat_model.proofs.PushLaws.{below_more, op_added, block_added, region
 use Rattle.ir_arena.specs.Handed.{NodeShows}
 
 -- one item more of a list that is read in order, with its part of another list
-zip_more : {A B : Type 0} (R : A → B → Type 0) (xs zs : List A) (ys : List B) (k : ℕ) (x : A) (y : B)
+pub zip_more : {A B : Type 0} (R : A → B → Type 0) (xs zs : List A) (ys : List B) (k : ℕ) (x : A) (y : B)
     → AllZip R xs (take k ys) → R x y → y ≡ get_or ys k y → k < length ys → zs ≡ xs ++ x ∷ [] → AllZip R zs (take (k + 1) ys)
 zip_more R xs zs ys k x y a r e h s =
     subst (λ ts. AllZip R zs ts) (ap (λ z. take k ys ++ z ∷ []) e ∙ sym (take_more ys k y h))

@@ -2,3 +2,5 @@ pub mod NumberLaws
 pub mod BuildLaws
 pub mod ReaderLaws
 pub mod FinishLaws
+pub mod ToTreeLaws
+pub mod ModuleLaws
