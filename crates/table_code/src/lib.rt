@@ -5,4 +5,4 @@ mod lookups;
 mod table;
 
 pub use lookups::operands;
-pub use table::{Table, bind, no_values};
+pub use table::{Table, bind, no_values, put};

@@ -32,7 +32,7 @@ fn make_room(table: &mut Table, n: usize) -> Result<(), AllocError>
 }
 
 /// Gives a number a value.
-fn put(table: &mut Table, n: u32, v: Value) -> Result<(), AllocError>
+pub fn put(table: &mut Table, n: u32, v: Value) -> Result<(), AllocError>
     ensures { OnOk result ((env : Env) → Agrees table.old env → Agrees table.new ((n, value_of v) ∷ env)) }
 {
     make_room(table, n as usize)?;

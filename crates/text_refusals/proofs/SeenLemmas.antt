@@ -23,12 +23,12 @@ use Rattle.text_kinds.specs.declared.found.Found.{Found}
 use Rattle.text_kinds.specs.Kinds.{least}
 use Rattle.text_kinds.specs.Plain.{plain_kinds}
 use Rattle.text_refusals.specs.Classes.{classes_of}
-use Rattle.text_refusals.specs.Spelling.{spelling_of}
+use Rattle.text_refusals.specs.Spelling.{indexes_of, spelling_of}
 use Rattle.text_refusals.specs.Refusing.{Seen, IsSeen, Refuses, refusal_of, at_byte, before, end_seen, ended, typed_kinds, used_kinds}
 
 pub judged : (text : List ℕ) (allowed : Bool) (s : Seen) (names : List ℕ) (seen : List Event) (classes : List Class) (os us : List (Option Found))
     → names ≡ names_of text s.words → seen ≡ before (end_seen s) (events_of s.places names) → classes ≡ classes_of text s.words
-    → os ≡ map (at_byte s.words) (plain_kinds (class_in classes) allowed seen ++ typed_kinds (spelling_of text s.words) seen)
+    → os ≡ map (at_byte s.words) (plain_kinds (class_in classes) allowed seen ++ typed_kinds (spelling_of text s.words) (indexes_of text s.words) (class_in classes) seen)
     ++ ended (ending_of (length text) s.words s.fault s.places s.whole s.refusal) ∷ []
     → us ≡ map (at_byte s.words) (used_kinds (class_in classes) seen) → least os us ≡ refusal_of text allowed s
 judged text allowed s names seen classes os us a b c d e = rw (d, e, b, c, a) refl
@@ -55,7 +55,7 @@ same_seen : (w v : List Word) (f g : Option LexFault) (p q : List Place) (a b : 
     → ◌≡◌ {A = Seen} (record { words = w; fault = f; places = p; whole = a; refusal = r }) (record { words = v; fault = g; places = q; whole = b; refusal = u })
 same_seen w v f g p q a b r u ww ff pp aa rr = rw (ww, ff, pp, aa, rr) refl
 
-seen_once : (text : List ℕ) (s t : Seen) → IsSeen text s → IsSeen text t → s ≡ t
+pub seen_once : (text : List ℕ) (s t : Seen) → IsSeen text s → IsSeen text t → s ≡ t
 seen_once text s t a b =
     let cut = cut_once text s.words t.words s.fault t.fault a.words b.words in
     let places : s.places ≡ t.places = sym a.form.taken ∙ ap (λ ws. (run generic start (map kind_of ws)).0) cut.0 ∙ b.form.taken in

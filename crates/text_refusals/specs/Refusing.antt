@@ -32,21 +32,23 @@ use Rattle.text_kinds.specs.declared.found.Kind.{Kind}
 use Rattle.text_kinds.specs.declared.found.Kind.TheVariants as kinds
 use Rattle.text_kinds.specs.Kinds.{least}
 use Rattle.text_kinds.specs.Plain.{plain_kinds, found_at}
+use Rattle.use_kinds.specs.Clashes.{first_clash}
 use Rattle.text_refusals.specs.Classes.{classes_of}
-use Rattle.text_refusals.specs.Spelling.{spelling_of}
+use Rattle.text_refusals.specs.Spelling.{indexes_of, spelling_of}
 
--- the kinds that look at types, over events whose function types are marked, with the aliases of the text
-abbrev pub kinds_of_types : Spelling → Aliases → List Event → List (Option Found)
-kinds_of_types words aliases es =
+-- the kinds that look at types, over events whose function types are marked, with the aliases of the text; the last is `UseType` or `ResultIndex`
+abbrev pub kinds_of_types : Spelling → (ℕ → ℕ) → Aliases → (ℕ → Class) → List Event → List (Option Found)
+kinds_of_types words indexes aliases class es =
     found_at kinds.IntegerRange (first_out words aliases es)
     ∷ found_at kinds.TypeCount (first_miscount words aliases es)
     ∷ found_at kinds.TypeDepth (first_deep_type es)
     ∷ found_at kinds.AttrDepth (first_deep_attr es)
     ∷ found_at kinds.Parts (first_part es)
+    ∷ first_clash words indexes aliases class es
     ∷ []
 
-abbrev pub typed_kinds : Spelling → List Event → List (Option Found)
-typed_kinds words es = kinds_of_types words (aliases_of words (marked es)) (marked es)
+abbrev pub typed_kinds : Spelling → (ℕ → ℕ) → (ℕ → Class) → List Event → List (Option Found)
+typed_kinds words indexes class es = kinds_of_types words indexes (aliases_of words (marked es)) class (marked es)
 
 -- uses that stand for nothing
 abbrev pub used_kinds : (ℕ → Class) → List Event → List (Option Found)
@@ -102,7 +104,7 @@ events_seen text s = before (end_seen s) (events_of s.places (names_of text s.wo
 -- all refusals but those of uses, by their bytes
 abbrev pub others : List ℕ → Bool → Seen → List (Option Found)
 others text allowed s =
-    map (at_byte s.words) (plain_kinds (class_in (classes_of text s.words)) allowed (events_seen text s) ++ typed_kinds (spelling_of text s.words) (events_seen text s))
+    map (at_byte s.words) (plain_kinds (class_in (classes_of text s.words)) allowed (events_seen text s) ++ typed_kinds (spelling_of text s.words) (indexes_of text s.words) (class_in (classes_of text s.words)) (events_seen text s))
     ++ ended (ending_of (length text) s.words s.fault s.places s.whole s.refusal) ∷ []
 
 abbrev pub uses : List ℕ → Seen → List (Option Found)

@@ -8,7 +8,9 @@ mod gathered;
 mod refusing;
 mod spells;
 
+pub use classes::classes as operation_classes;
 pub use refusing::refusal;
+pub use spells::Spells;
 
 /// A text is refused in one way, or by nothing.
 pub fn law_one_refusal()

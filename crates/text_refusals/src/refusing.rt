@@ -5,7 +5,7 @@ ghost use Rattle.text_events.specs.Names.{names_of};
 ghost use Rattle.text_events.specs.Source.{events_of};
 ghost use Rattle.text_refusals.specs.Refusing.{Refuses, at_byte, at_word, before, end_kind, ended, refusal_of, typed_kinds, used_kinds};
 ghost use Rattle.text_refusals.specs.Found.{seen_of};
-ghost use Rattle.text_refusals.specs.Spelling.{spelling_of};
+ghost use Rattle.text_refusals.specs.Spelling.{indexes_of, spelling_of};
 ghost use Rattle.text_events.specs.Looking.{end_of, ending_of};
 ghost use Rattle.text_scopes.specs.Bodies.{class_in};
 ghost use Rattle.text_kinds.specs.Plain.{plain_kinds};
@@ -77,7 +77,7 @@ fn others(
     events: &[Event],
 ) -> Result<Vec<Option<Found>>, AllocError>
     requires { length events.now < 2 ^ 32 }
-    ensures { IfOk result (λ v. v.items ≡ map (at_byte cut.now.words.items) (plain_kinds (class_in classes.now) allowed events.now ++ typed_kinds (spelling_of text.now cut.now.words.items) events.now)
+    ensures { IfOk result (λ v. v.items ≡ map (at_byte cut.now.words.items) (plain_kinds (class_in classes.now) allowed events.now ++ typed_kinds (spelling_of text.now cut.now.words.items) (indexes_of text.now cut.now.words.items) (class_in classes.now) events.now)
         ++ ended (ending_of (length text.now) cut.now.words.items cut.now.fault look.now.places.items look.now.whole look.now.refusal) ∷ []) }
 {
     let source = Source {
@@ -85,7 +85,7 @@ fn others(
         words: &cut.words,
     };
     let mut found = plain_kinds(alloc, classes, allowed, events)?;
-    let typed = typed_kinds(alloc, &Spells { source }, events)?;
+    let typed = typed_kinds(alloc, &Spells { source }, classes, events)?;
     found.extend_from_slice(&typed)?;
     let mut all = placed(alloc, &cut.words, &found)?;
     all.push(ended(find_ending(text.len(), &cut.words, cut.fault, look)))?;

@@ -1,9 +1,10 @@
 //! What the words of a text spell, for its types.
 
-ghost use Rattle.text_refusals.specs.Spelling.{spelling_of};
+ghost use Rattle.text_refusals.specs.Spelling.{indexes_of, spelling_of};
 
 use text_events::Source;
 use text_types::Spelled;
+use use_kinds::Indexed;
 
 /// The words of a text, as its types ask for them.
 #[derive(Clone, Copy, Drop)]
@@ -28,5 +29,13 @@ impl<'t> Spelled for Spells<'t> {
 
     fn is_void(&self, name: u32) -> bool {
         self.source.is_void(name)
+    }
+}
+
+impl<'t> Indexed for Spells<'t> {
+    ghost indexes = { λ s. indexes_of s.source.text.now s.source.words.now };
+
+    fn index(&self, name: u32) -> u128 {
+        self.source.index(name)
     }
 }

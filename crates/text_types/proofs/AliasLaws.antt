@@ -10,7 +10,7 @@ use Rattle.term_table.proofs.TableLaws.{zero_is}
 use Rattle.text_types.specs.declared.alias_numbers.AliasNumbers.{AliasNumbers}
 use Rattle.text_types.specs.Spelling.{Spelling}
 use Rattle.text_types.specs.Items.{Aliases, begins, begun}
-use Rattle.text_types.specs.Aliases.{after, aliases_from, bound, defines, piece}
+use Rattle.text_types.specs.Aliases.{after, aliases_from, bound, defines_new, piece}
 use Rattle.text_types.specs.Stack.{Within, Stands, AliasesWithin, alias_terms, number_of, first_number}
 
 pub first_within : (last : ℕ) (numbers : List ℕ) → Within last numbers → first_number numbers ≤ last
@@ -60,13 +60,13 @@ bound_within last aliases more name number h within is = λ other.
 
 -- the definition of an alias, and another event
 pub defined_is : (words : Spelling) (old new : List Node) (aliases more : AliasNumbers) (e : Event) (behind value : List Event) (number : ℕ) → Grows old new → AliasesWithin (length old) aliases
-    → defines e.place ≡ true → value ≡ piece behind → term_at new number ≡ begins words (alias_terms old aliases) value
+    → defines_new (alias_terms old aliases) e ≡ true → value ≡ piece behind → term_at new number ≡ begins words (alias_terms old aliases) value
     → ((other : ℕ) → number_of more other ≡ (if other == e.name then number else number_of aliases other)) → alias_terms new more ≡ after words (alias_terms old aliases) e behind
 defined_is words old new aliases more e behind value number grows within it cut is h =
     now_bound old new aliases more e.name number (begins words (alias_terms old aliases) (piece behind)) grows within (is ∙ ap (begins words (alias_terms old aliases)) cut) h
     ∙ ap (λ b. if b then bound e.name (begins words (alias_terms old aliases) (piece behind)) (alias_terms old aliases) else alias_terms old aliases) (sym it)
 
-pub other_is : (words : Spelling) (env : Aliases) (e : Event) (behind : List Event) → defines e.place ≡ false → env ≡ after words env e behind
+pub other_is : (words : Spelling) (env : Aliases) (e : Event) (behind : List Event) → defines_new env e ≡ false → env ≡ after words env e behind
 other_is words env e behind it = ap (λ b. if b then bound e.name (begins words env (piece behind)) env else env) (sym it)
 
 -- an event more

@@ -1,9 +1,9 @@
 -- What the aliases of a text stand for.
-use Rattle.std.specs.Prelude.{ℕ, ◌==◌, Bool, true, false, List, [], ◌∷◌, if◌then◌else◌}
+use Rattle.std.specs.Prelude.{ℕ, ◌==◌, ◌&&◌, Bool, true, false, List, [], ◌∷◌, if◌then◌else◌}
 use Rattle.text_grammar.specs.declared.places.Place.{Place}
 use Rattle.text_grammar.specs.declared.places.Place.TheVariants as places
 use Rattle.text_events.specs.declared.event.Event.{Event}
-use Rattle.term_table.specs.Terms.{Term, nothing}
+use Rattle.term_table.specs.Terms.{Term, nothing, node}
 use Rattle.text_types.specs.Spelling.{Spelling}
 use Rattle.text_types.specs.Items.{Aliases, begins}
 
@@ -30,9 +30,17 @@ defines places.TypeAliasName = true
 defines places.AttrAliasName = true
 defines _ = false
 
--- what the aliases stand for behind an event, where these follow
+abbrev pub is_nothing : Term → Bool
+is_nothing nothing = true
+is_nothing (node form value left right) = false
+
+-- whether the event defines an alias that stands for nothing so far
+abbrev pub defines_new : Aliases → Event → Bool
+defines_new aliases e = defines e.place && is_nothing (aliases e.name)
+
+-- what the aliases stand for behind an event, where these follow: one that is defined again, which is refused there, keeps what it stands for
 abbrev pub after : Spelling → Aliases → Event → List Event → Aliases
-after words aliases e events = if defines e.place then bound e.name (begins words aliases (piece events)) aliases else aliases
+after words aliases e events = if defines_new aliases e then bound e.name (begins words aliases (piece events)) aliases else aliases
 
 -- what they stand for behind all of the events, in order of the text
 abbrev pub aliases_from : Spelling → Aliases → List Event → Aliases

@@ -92,6 +92,11 @@ two_aliases =
 example_aliases : type_of (aliases_of words two_aliases 9) ≡ Memref [] (Int 8)
 example_aliases = refl
 
+-- !7 = i8, !7 = i16: what was defined first
+example_defined_again : type_of (aliases_of words (at places.TypeAliasName 7 ∷ at places.TypeAliasEquals 1 ∷ at places.IntegerWord 8 ∷ at places.TypeAliasName 7 ∷ at places.TypeAliasEquals 1
+    ∷ at places.IntegerWord 16 ∷ []) 7) ≡ Int 8
+example_defined_again = refl
+
 -- #7 = loc(unknown) stands for nothing
 example_location : aliases_of words (at places.AttrAliasName 7 ∷ at places.AttrAliasEquals 1 ∷ at places.LocWord 1 ∷ at places.LocOpen 1 ∷ at places.LocUnknown 1 ∷ at places.LocClose 1 ∷ []) 7 ≡ nothing
 example_location = refl

@@ -1,5 +1,5 @@
 -- What holds of types and their numbers.
-use Rattle.std.specs.Prelude.{◌≡◌, ◌≤◌, ◌↔◌, ℕ, List, length}
+use Rattle.std.specs.Prelude.{◌≡◌, ◌≤◌, ◌↔◌, ℕ, length}
 use Rattle.plain_tree.specs.Types.{PlainType}
 use Rattle.term_table.specs.declared.table.Terms.{Terms}
 use Rattle.term_table.specs.Terms.{term_at}

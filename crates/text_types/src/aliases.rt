@@ -2,7 +2,7 @@
 
 ghost use Rattle.std.specs.Prelude.{◌≡◌, ◌≤◌, IfOk, OnOk, length};
 ghost use Rattle.term_table.specs.Terms.{Grows, term_at};
-ghost use Rattle.text_types.specs.Aliases.{after, aliases_of, defines, is_start, piece};
+ghost use Rattle.text_types.specs.Aliases.{after, aliases_of, defines, defines_new, is_nothing, is_start, piece};
 ghost use Rattle.text_types.specs.Items.{begins};
 ghost use Rattle.text_types.specs.Stack.{AliasesWithin, alias_terms, first_number};
 
@@ -73,6 +73,22 @@ fn first_at<S: Spelled>(
     Ok(first(&numbers))
 }
 
+/// Whether the number stands for nothing.
+fn is_nothing(terms: &Terms, number: u32) -> bool
+    requires { number ≤ length terms.now.nodes.keys }
+    ensures { result ≡ is_nothing (term_at terms.now.nodes.keys number) }
+{
+    terms.get(number).is_none()
+}
+
+/// Whether the event defines an alias that stands for nothing so far.
+fn defines_new(aliases: &AliasNumbers, terms: &Terms, event: Event) -> bool
+    requires { AliasesWithin (length terms.now.nodes.keys) aliases.now }
+    ensures { result ≡ defines_new (alias_terms terms.now.nodes.keys aliases.now) event }
+{
+    defines(event.place) && is_nothing(terms, aliases.of(event.name))
+}
+
 /// Binds the alias that the event defines, where these follow.
 fn define<S: Spelled>(
     alloc: Global,
@@ -87,7 +103,7 @@ fn define<S: Spelled>(
     ensures within { OnOk result (AliasesWithin (length terms.new.nodes.keys) aliases.new) }
     ensures aliases { OnOk result (alias_terms terms.new.nodes.keys aliases.new ≡ after (S.spelling words.now) (alias_terms terms.old.nodes.keys aliases.old) event behind.now) }
 {
-    if !defines(event.place) {
+    if !defines_new(aliases, terms, event) {
         return Ok(());
     }
     let value = piece(behind);

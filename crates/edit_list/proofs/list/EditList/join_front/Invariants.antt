@@ -1,0 +1,8 @@
+use Rattle.std.proofs.Common.{◌≡◌, ◌++◌, take}
+use Rattle.edit_list.proofs.list.EditList.join_front.Given as goal
+
+abbrev pub invariant-loop-place : goal.invariant-loop-place
+invariant-loop-place l = record {
+  list : l.self.list ≡ take l.place l.more.list ++ l.initial.self.list;
+  room : l.self.room ≡ l.initial.self.room;
+}

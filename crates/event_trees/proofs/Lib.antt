@@ -1,0 +1,4 @@
+mod AttrExamples
+mod NumberExamples
+mod LevelExamples
+mod TextExamples

@@ -1,0 +1,4 @@
+pub mod Flat
+pub mod Shows
+pub mod Growth
+pub mod Renamed

@@ -1,0 +1,6 @@
+pub mod NumberLaws
+pub mod BuildLaws
+pub mod ReaderLaws
+pub mod FinishLaws
+pub mod ToTreeLaws
+pub mod ModuleLaws

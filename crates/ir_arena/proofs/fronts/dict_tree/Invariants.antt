@@ -1,0 +1,20 @@
+use Rattle.std.proofs.Common.{◌≡◌, ◌*◌, ◌+◌, ℕ, List, take}
+use Rattle.std.specs.List.{AllZip}
+use Rattle.tree_model.specs.declared.type_tree.TypeTree.{TypeTree}
+use Rattle.tree_model.specs.declared.attr_tree.AttrTree.{AttrTree}
+use Rattle.tree_model.specs.declared.op_tree.OpTree.{OpTree}
+use Rattle.tree_model.specs.declared.op_tree.BlockTree.{BlockTree}
+use Rattle.tree_model.specs.declared.op_tree.RegionTree.{RegionTree}
+use Rattle.flat_model.specs.Flat.{block_at}
+use Rattle.flat_model.specs.Growth.{Kept}
+use Rattle.flat_model.specs.Shows.{Itself, EntryShows, ValueShows, OpsShow, RegionsShow, BlocksShow}
+use Rattle.ir_arena.proofs.fronts.dict_tree.Given as goal
+
+abbrev pub invariant-loop-entry : goal.invariant-loop-entry
+invariant-loop-entry g l = record {
+  ready : g.I.Interner.ready l.i;
+  fixed : g.I.Interner.fixed l.i ≡ g.I.Interner.fixed l.initial.i;
+  cap : g.I.Interner.cap l.i ≡ g.I.Interner.cap l.initial.i;
+  kept : Kept (g.I.Interner.holds l.initial.i) (g.I.Interner.holds l.i);
+  trees : (ts : List (List ℕ × AttrTree)) → AllZip (EntryShows (g.I.Interner.holds l.initial.i)) l.entries ts → l.trees ≡ take l.entry-index ts;
+}

@@ -1,0 +1,4 @@
+pub mod Arena
+pub mod Building
+pub mod Handed
+pub mod Modules

@@ -1,0 +1,25 @@
+//! The arena: functions as lists of nodes with handles for types and attributes, and modules of them.
+#![tactic(auto)]
+
+mod build;
+mod cells;
+mod counting;
+mod dicts;
+mod fresh;
+mod from_trees;
+mod fronts;
+mod func;
+mod func_tree;
+mod handles;
+mod module_cell;
+mod module_trees;
+mod numbering;
+mod op_nodes;
+mod pushing;
+mod readers;
+mod to_trees;
+mod values;
+
+pub use func::Func;
+pub use module_cell::Module;
+pub use module_trees::through_arena;

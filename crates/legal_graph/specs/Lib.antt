@@ -1,0 +1,4 @@
+pub mod Depths
+pub mod Orders
+pub mod Listed
+pub mod Graphs

@@ -1,0 +1,4 @@
+pub mod Left
+pub mod Views
+pub mod Adds
+pub mod Alone

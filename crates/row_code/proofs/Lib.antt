@@ -1,0 +1,2 @@
+pub mod WrapLaws
+pub mod Opens

@@ -1,0 +1,2 @@
+//! Laws of meaning: one machine that keeps to another.
+#![tactic(auto)]

@@ -1,0 +1,4 @@
+pub mod Refinement
+pub mod Runs
+pub mod Soundness
+pub mod Agreement

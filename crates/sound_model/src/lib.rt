@@ -1,0 +1,2 @@
+//! When a template does what an operation does, and when modules agree. A crate of definitions.
+#![tactic(auto)]

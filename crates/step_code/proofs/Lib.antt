@@ -1,0 +1,4 @@
+pub mod ActLaws
+pub mod FindLaws
+pub mod StepLaws
+pub mod TurnLaws

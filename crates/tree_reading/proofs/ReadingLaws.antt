@@ -1,0 +1,34 @@
+-- The laws of reading.
+use Rattle.std.proofs.Common.{◌≡◌, ℕ, Some, None, refl, sym, ◌∙◌, ap, inl, inr}
+use Rattle.text_kinds.specs.declared.found.Found.{Found}
+use Rattle.text_kinds.specs.declared.found.Kind.{Kind}
+use Rattle.text_refusals.proofs.SeenLemmas.{one_refusal, seen_once}
+use Rattle.tree_reading.specs.Reading.{denoted_by}
+use Rattle.tree_reading.specs.Laws.{NeverBoth, OneModule, OneOfTheTwo, OneRefusal, SameModule}
+
+pub same_module : SameModule
+same_module text A B p q a b =
+    let (s, x, e) = a.denotes in let (t, y, f) = b.denotes in
+    e ∙ ap (denoted_by text) (seen_once text s t x y) ∙ sym f
+
+pub one_module : OneModule
+one_module text allowed A B a b = same_module text A B allowed allowed a b
+
+abbrev at : ℕ → Kind → Found
+at place kind = record { place = place; kind = kind }
+
+none_is_none : (found : Found) → None ≡ Some found → ⊥
+none_is_none found e = cc
+
+same_found : (place other : ℕ) (kind sort : Kind) → Some (at place kind) ≡ Some (at other sort) → (place ≡ other) × (kind ≡ sort)
+same_found place other kind sort e = let same : at place kind ≡ at other sort = cc in (ap (λ (f : Found). f.place) same, ap (λ (f : Found). f.kind) same)
+
+pub never_both : NeverBoth
+never_both text allowed A place kind a b = none_is_none (at place kind) (one_refusal text allowed None (Some (at place kind)) a.unrefused b)
+
+pub refused_once : OneRefusal
+refused_once text allowed place other kind sort a b = same_found place other kind sort (one_refusal text allowed (Some (at place kind)) (Some (at other sort)) a b)
+
+pub one_of_the_two : OneOfTheTwo
+one_of_the_two text allowed None h = let (s, x, e) = h in inl (denoted_by text s, record { unrefused = h; denotes = (s, x, refl) })
+one_of_the_two text allowed (Some found) h = inr (found.place, found.kind, h)
