@@ -1,0 +1,16 @@
+pub mod Sources
+pub mod Alone
+pub mod Values
+pub mod Forms
+pub mod Fits
+pub mod Steps
+pub mod Lowered
+pub mod Extremes
+pub mod Casts
+pub mod Constants
+pub mod ArithSet
+pub mod StepFits
+pub mod Expanded
+pub mod ExpandSet
+pub mod CfSet
+pub mod Sets
