@@ -24,7 +24,7 @@ pub record Changes (bits : ℕ) (change : PlainType → Option PlainType) : Type
 nil_cons : {A : Type 0} {x : A} {xs : List A} → [] ≡ x ∷ xs → ⊥
 nil_cons e = omega (arith, ap length e)
 
-changed_joined : (change : PlainType → Option PlainType) (ts us : List PlainType) → all_changed change (ts ++ us) ≡ all_changed change ts ++ all_changed change us
+pub changed_joined : (change : PlainType → Option PlainType) (ts us : List PlainType) → all_changed change (ts ++ us) ≡ all_changed change ts ++ all_changed change us
 changed_joined change [] us = refl
 changed_joined change (t ∷ ts) us = ap (λ zs. or_same t (change t) ∷ zs) (changed_joined change ts us)
 

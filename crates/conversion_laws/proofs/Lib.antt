@@ -6,3 +6,4 @@ pub mod Arguments
 pub mod Trees
 pub mod Texts
 pub mod Stages
+pub mod Plain

@@ -40,7 +40,7 @@ put_all Q r (s ∷ rs) h all = go (goes_before s r) (put_all Q r rs h all.1)
     go true behind = (all.0, behind)
     go false behind = (h, all)
 
-order_all : (Q : Ranked → Type 0) (rs : List Ranked) → AllOf Q rs → AllOf Q (in_order rs)
+pub order_all : (Q : Ranked → Type 0) (rs : List Ranked) → AllOf Q rs → AllOf Q (in_order rs)
 order_all Q [] all = tt
 order_all Q (r ∷ rs) all = put_all Q r (in_order rs) all.0 (order_all Q rs all.1)
 

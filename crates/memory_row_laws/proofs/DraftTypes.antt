@@ -15,11 +15,11 @@ use Rattle.sound_model.specs.Runs.{item_of, and_item, items_of, types_made}
 use Rattle.sound_model.specs.Soundness.{is_root, StepsFit}
 use Rattle.memory_row_laws.proofs.DraftRuns.{stays_there, last_there, one_longer}
 
-append_on : {A : Type 0} (xs : List A) (y : A) (zs : List A) → (xs ++ y ∷ []) ++ zs ≡ xs ++ y ∷ zs
+pub append_on : {A : Type 0} (xs : List A) (y : A) (zs : List A) → (xs ++ y ∷ []) ++ zs ≡ xs ++ y ∷ zs
 append_on [] y zs = refl
 append_on (x ∷ xs) y zs = ap (λ l. x ∷ l) (append_on xs y zs)
 
-append_nothing : {A : Type 0} (xs : List A) → xs ++ [] ≡ xs
+pub append_nothing : {A : Type 0} (xs : List A) → xs ++ [] ≡ xs
 append_nothing [] = refl
 append_nothing (x ∷ xs) = ap (λ l. x ∷ l) (append_nothing xs)
 

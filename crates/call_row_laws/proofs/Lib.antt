@@ -1,0 +1,4 @@
+pub mod Recasts
+pub mod Structs
+pub mod Returned
+pub mod CallSets

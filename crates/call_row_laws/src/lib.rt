@@ -1,0 +1,8 @@
+//! Rows of calls, returns and casts do what the operations do that they replace.
+//!
+//! A crate of definitions with their laws.
+#![tactic(auto)]
+
+mod laws;
+
+pub use laws::{law_cast_row, law_return_row};

@@ -1,0 +1,5 @@
+pub mod Lines
+pub mod Typed
+pub mod Fits
+pub mod Kept
+pub mod Promises

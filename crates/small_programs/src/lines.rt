@@ -1,0 +1,229 @@
+//! Operations as lines, and the trees that they stand for.
+
+use sqlite_items::{Boxed, Items};
+use std::alloc::Global;
+use tree_model::{
+    AttrTree, BlockTree, Bytes, DictTree, Dim, FuncTree, ModuleTree, Name, NoMemory, OpTree,
+    RegionTree, TypeList, TypeTree, ValueList, entry, one,
+};
+
+/// A type of a value.
+#[derive(Clone, Copy, Debug)]
+pub enum Ty {
+    Int(u32),
+    Index,
+    Ptr,
+    /// A memref of one open dimension, of integers of this width.
+    Memref(u32),
+}
+
+/// What a property says.
+#[derive(Clone, Copy, Debug)]
+pub enum Note<'a> {
+    Nothing,
+    /// The value of a constant.
+    Value(i64, Ty),
+    /// The number of a comparison.
+    Predicate(i64),
+    /// The function that is called.
+    Callee(&'a [u8]),
+    /// How many operands each successor takes, behind those of the operation itself.
+    Segments(&'a [i64]),
+    /// A word of an operation's promises.
+    Promise(&'a [u8]),
+}
+
+/// An operation: its name, its results with their types, its operands, what a property says, and its successors.
+#[derive(Clone, Copy, Debug)]
+pub struct Line<'a> {
+    pub name: &'a [u8],
+    pub results: &'a [(u32, Ty)],
+    pub operands: &'a [u32],
+    pub note: Note<'a>,
+    pub successors: &'a [u32],
+}
+
+/// An operation without properties and successors.
+pub fn plain<'a>(name: &'a [u8], results: &'a [(u32, Ty)], operands: &'a [u32]) -> Line<'a> {
+    Line {
+        name,
+        results,
+        operands,
+        note: Note::Nothing,
+        successors: &[],
+    }
+}
+
+/// A constant.
+pub fn constant<'a>(name: &'a [u8], results: &'a [(u32, Ty)], value: i64, ty: Ty) -> Line<'a> {
+    Line {
+        name,
+        results,
+        operands: &[],
+        note: Note::Value(value, ty),
+        successors: &[],
+    }
+}
+
+fn type_tree(alloc: Global, ty: Ty) -> Result<TypeTree, NoMemory> {
+    match ty {
+        Ty::Int(width) => Ok(TypeTree::Int(width)),
+        Ty::Index => Ok(TypeTree::Index),
+        Ty::Ptr => Ok(TypeTree::Ptr),
+        Ty::Memref(width) => {
+            let element = Boxed::new(alloc, TypeTree::Int(width))?;
+            Ok(TypeTree::Memref(one(alloc, Dim::Dynamic)?, element))
+        }
+    }
+}
+
+fn types(alloc: Global, list: &[Ty]) -> Result<TypeList, NoMemory> {
+    let mut all = Items::new(alloc);
+    for ty in list {
+        all.push(type_tree(alloc, *ty)?)?;
+    }
+    Ok(all)
+}
+
+fn values(alloc: Global, list: &[(u32, Ty)]) -> Result<ValueList, NoMemory> {
+    let mut all = Items::new(alloc);
+    for (number, ty) in list {
+        all.push((*number, type_tree(alloc, *ty)?))?;
+    }
+    Ok(all)
+}
+
+fn promise(alloc: Global, word: &[u8]) -> Result<AttrTree, NoMemory> {
+    let dialect = Name::from_slice(alloc, b"arith.overflow")?;
+    let words = one(alloc, Name::from_slice(alloc, word)?)?;
+    Ok(AttrTree::Dialect(dialect, words))
+}
+
+fn properties(alloc: Global, note: Note<'_>) -> Result<DictTree, NoMemory> {
+    match note {
+        Note::Nothing => Ok(Items::new(alloc)),
+        Note::Value(value, ty) => {
+            let value = AttrTree::Int(value, type_tree(alloc, ty)?);
+            entry(alloc, b"value", value)
+        }
+        Note::Predicate(number) => {
+            let number = AttrTree::Int(number, TypeTree::Int(64));
+            entry(alloc, b"predicate", number)
+        }
+        Note::Callee(name) => {
+            let name = Bytes::from_slice(alloc, name)?;
+            entry(alloc, b"callee", AttrTree::Symbol(name))
+        }
+        Note::Segments(counts) => {
+            let counts = Items::from_slice(alloc, counts)?;
+            entry(alloc, b"operandSegmentSizes", AttrTree::Ints(32, counts))
+        }
+        Note::Promise(word) => entry(alloc, b"overflowFlags", promise(alloc, word)?),
+    }
+}
+
+/// The operation of a line.
+pub fn op(alloc: Global, line: &Line<'_>) -> Result<OpTree, NoMemory> {
+    Ok(OpTree {
+        name: Name::from_slice(alloc, line.name)?,
+        results: values(alloc, line.results)?,
+        operands: Items::from_slice(alloc, line.operands)?,
+        props: properties(alloc, line.note)?,
+        attrs: Items::new(alloc),
+        regions: Items::new(alloc),
+        successors: Items::from_slice(alloc, line.successors)?,
+    })
+}
+
+/// The operations of lines behind those of a block.
+pub fn add(alloc: Global, block: &mut BlockTree, lines: &[Line<'_>]) -> Result<(), NoMemory> {
+    for line in lines {
+        block.ops.push(op(alloc, line)?)?;
+    }
+    Ok(())
+}
+
+/// A block of lines.
+pub fn block(
+    alloc: Global,
+    label: u32,
+    args: &[(u32, Ty)],
+    lines: &[Line<'_>],
+) -> Result<BlockTree, NoMemory> {
+    let mut block = BlockTree {
+        label,
+        args: values(alloc, args)?,
+        ops: Items::new(alloc),
+    };
+    add(alloc, &mut block, lines)?;
+    Ok(block)
+}
+
+/// The operation of a line that holds a region of one block.
+pub fn holding(
+    alloc: Global,
+    line: &Line<'_>,
+    block: BlockTree,
+) -> Result<OpTree, NoMemory> {
+    let mut holder = op(alloc, line)?;
+    holder.regions.push(RegionTree {
+        blocks: one(alloc, block)?,
+    })?;
+    Ok(holder)
+}
+
+fn func_props(
+    alloc: Global,
+    name: &[u8],
+    inputs: &[Ty],
+    outputs: &[Ty],
+) -> Result<DictTree, NoMemory> {
+    let inputs = types(alloc, inputs)?;
+    let face = TypeTree::Func(inputs, types(alloc, outputs)?);
+    let mut props = entry(alloc, b"function_type", AttrTree::OfType(face))?;
+    let name = AttrTree::Str(Bytes::from_slice(alloc, name)?);
+    props.push((Name::from_slice(alloc, b"sym_name")?, name))?;
+    Ok(props)
+}
+
+/// A function of this name and type without a body.
+pub fn declared(
+    alloc: Global,
+    name: &[u8],
+    inputs: &[Ty],
+    outputs: &[Ty],
+) -> Result<FuncTree, NoMemory> {
+    Ok(FuncTree {
+        op: OpTree {
+            name: Name::from_slice(alloc, b"func.func")?,
+            results: Items::new(alloc),
+            operands: Items::new(alloc),
+            props: func_props(alloc, name, inputs, outputs)?,
+            attrs: Items::new(alloc),
+            regions: Items::new(alloc),
+            successors: Items::new(alloc),
+        },
+    })
+}
+
+/// A function with these blocks.
+pub fn defined(
+    alloc: Global,
+    name: &[u8],
+    inputs: &[Ty],
+    outputs: &[Ty],
+    blocks: Items<BlockTree>,
+) -> Result<FuncTree, NoMemory> {
+    let mut func = declared(alloc, name, inputs, outputs)?;
+    func.op.regions.push(RegionTree { blocks })?;
+    Ok(func)
+}
+
+/// A module of one function.
+pub fn module(alloc: Global, func: FuncTree) -> Result<ModuleTree, NoMemory> {
+    Ok(ModuleTree {
+        props: Items::new(alloc),
+        attrs: Items::new(alloc),
+        funcs: one(alloc, func)?,
+    })
+}
