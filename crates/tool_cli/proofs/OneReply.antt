@@ -2,11 +2,11 @@
 use Rattle.std.proofs.Common.{◌≡◌, ℕ, ◌≤◌, ◌<◌, List, [], ◌∷◌, Bool, Option, Some, None, Result, Ok, refl, sym, ap, ◌∙◌, subst, arith}
 use Rattle.tree_model.specs.declared.op_tree.FuncTree.{FuncTree}
 use Rattle.tree_model.specs.declared.op_tree.ModuleTree.{ModuleTree}
-use Rattle.text_kinds.specs.declared.found.Found.{Found}
+use Rattle.text_kinds.specs.declared.found.Kind.{Kind}
 use Rattle.lowering_model.specs.ArithPass.{arith_converted}
 use Rattle.lowering_model.specs.Conversion.{Unlegalised}
-use Rattle.module_reader.specs.Reads.{Reads, ReadsNot}
-use Rattle.module_reader.proofs.Once.{one_module, one_refusal, not_both}
+use Rattle.tree_reading.specs.Reading.{Reads, ReadsNot}
+use Rattle.tree_reading.proofs.ReadingLaws.{one_module, refused_once, never_both}
 use Rattle.conv_driver.specs.Modules.{AllFirst, EachConverts}
 use Rattle.tool_cli.specs.declared.command.Command.{Command}
 use Rattle.tool_cli.specs.declared.command.Pass.{Pass}
@@ -50,18 +50,22 @@ reads_as : (words : List (List ℕ)) (bytes : List ℕ) (c d : Command) (s : Mod
     → Reads bytes d.allowed s → Reads bytes c.allowed s
 reads_as words bytes c d s p q reads = let P : Command → Type 0 = λ e. Reads bytes e.allowed s in subst P (same_command words d c q p) reads
 
-refused_as : (words : List (List ℕ)) (bytes : List ℕ) (c d : Command) (f : Found) → command_of words ≡ Some c → command_of words ≡ Some d
-    → ReadsNot bytes d.allowed f → ReadsNot bytes c.allowed f
-refused_as words bytes c d f p q reads = let P : Command → Type 0 = λ e. ReadsNot bytes e.allowed f in subst P (same_command words d c q p) reads
+refused_as : (words : List (List ℕ)) (bytes : List ℕ) (c d : Command) (place : ℕ) (kind : Kind) → command_of words ≡ Some c → command_of words ≡ Some d
+    → ReadsNot bytes d.allowed place kind → ReadsNot bytes c.allowed place kind
+refused_as words bytes c d place kind p q reads =
+    let P : Command → Type 0 = λ e. ReadsNot bytes e.allowed place kind in subst P (same_command words d c q p) reads
 
 -- a text that one row reads and another refuses
-never_both : (words : List (List ℕ)) (bytes : List ℕ) (c d : Command) (s : ModuleTree) (f : Found) → command_of words ≡ Some c → command_of words ≡ Some d
-    → Reads bytes c.allowed s → ReadsNot bytes d.allowed f → ⊥
-never_both words bytes c d s f p q reads not = not_both bytes c.allowed s f reads (refused_as words bytes c d f p q not)
+not_both : (words : List (List ℕ)) (bytes : List ℕ) (c d : Command) (s : ModuleTree) (place : ℕ) (kind : Kind) → command_of words ≡ Some c → command_of words ≡ Some d
+    → Reads bytes c.allowed s → ReadsNot bytes d.allowed place kind → ⊥
+not_both words bytes c d s place kind p q reads not = never_both bytes c.allowed s place kind reads (refused_as words bytes c d place kind p q not)
 
-one_found : (words : List (List ℕ)) (bytes : List ℕ) (c d : Command) (f g : Found) → command_of words ≡ Some c → command_of words ≡ Some d
-    → ReadsNot bytes c.allowed f → ReadsNot bytes d.allowed g → f ≡ g
-one_found words bytes c d f g p q not also = one_refusal bytes c.allowed f g not (refused_as words bytes c d g p q also)
+-- two refusals of a text by one command
+one_refusal : (words : List (List ℕ)) (bytes : List ℕ) (c d : Command) (place other : ℕ) (kind sort : Kind) → command_of words ≡ Some c → command_of words ≡ Some d
+    → ReadsNot bytes c.allowed place kind → ReadsNot bytes d.allowed other sort → refused place kind ≡ refused other sort
+one_refusal words bytes c d place other kind sort p q not also =
+    let same = refused_once bytes c.allowed place other kind sort not (refused_as words bytes c d other sort p q also) in
+    ap (λ x. refused x kind) same.0 ∙ ap (refused other) same.1
 
 one_source : (words : List (List ℕ)) (bytes : List ℕ) (c d : Command) (s t : ModuleTree) → command_of words ≡ Some c → command_of words ≡ Some d
     → Reads bytes c.allowed s → Reads bytes d.allowed t → s ≡ t
@@ -90,27 +94,27 @@ one_made words bytes c d source other made same p q found also makes remakes =
 pub one_reply : (words : List (List ℕ)) (bytes : List ℕ) (one other : Reply) → Out words bytes one → Out words bytes other → one ≡ other
 one_reply words bytes _ _ (no_command _) (no_command _) = refl
 one_reply words bytes _ _ (no_command a) (long_input c b _) = absurd (no_and_some words c a b)
-one_reply words bytes _ _ (no_command a) (no_module c _ b _ _) = absurd (no_and_some words c a b)
+one_reply words bytes _ _ (no_command a) (no_module c _ _ b _ _) = absurd (no_and_some words c a b)
 one_reply words bytes _ _ (no_command a) (not_built c _ b _ _ _ _) = absurd (no_and_some words c a b)
 one_reply words bytes _ _ (no_command a) (a_module c _ _ b _ _ _) = absurd (no_and_some words c a b)
 one_reply words bytes _ _ (long_input c a _) (no_command b) = absurd (no_and_some words c b a)
 one_reply words bytes _ _ (long_input _ _ _) (long_input _ _ _) = refl
-one_reply words bytes _ _ (long_input _ _ a) (no_module _ _ _ b _) = absurd (omega arith)
+one_reply words bytes _ _ (long_input _ _ a) (no_module _ _ _ _ b _) = absurd (omega arith)
 one_reply words bytes _ _ (long_input _ _ a) (not_built _ _ _ b _ _ _) = absurd (omega arith)
 one_reply words bytes _ _ (long_input _ _ a) (a_module _ _ _ _ b _ _) = absurd (omega arith)
-one_reply words bytes _ _ (no_module c _ a _ _) (no_command b) = absurd (no_and_some words c b a)
-one_reply words bytes _ _ (no_module _ _ _ a _) (long_input _ _ b) = absurd (omega arith)
-one_reply words bytes _ _ (no_module c f p _ a) (no_module d g q _ b) = ap refused (one_found words bytes c d f g p q a b)
-one_reply words bytes _ _ (no_module c f p _ a) (not_built d s q _ b _ _) = absurd (never_both words bytes d c s f q p b a)
-one_reply words bytes _ _ (no_module c f p _ a) (a_module d s _ q _ b _) = absurd (never_both words bytes d c s f q p b a)
+one_reply words bytes _ _ (no_module c _ _ a _ _) (no_command b) = absurd (no_and_some words c b a)
+one_reply words bytes _ _ (no_module _ _ _ _ a _) (long_input _ _ b) = absurd (omega arith)
+one_reply words bytes _ _ (no_module c f k p _ a) (no_module d g l q _ b) = one_refusal words bytes c d f g k l p q a b
+one_reply words bytes _ _ (no_module c f k p _ a) (not_built d s q _ b _ _) = absurd (not_both words bytes d c s f k q p b a)
+one_reply words bytes _ _ (no_module c f k p _ a) (a_module d s _ q _ b _) = absurd (not_both words bytes d c s f k q p b a)
 one_reply words bytes _ _ (not_built c _ a _ _ _ _) (no_command b) = absurd (no_and_some words c b a)
 one_reply words bytes _ _ (not_built _ _ _ a _ _ _) (long_input _ _ b) = absurd (omega arith)
-one_reply words bytes _ _ (not_built c s p _ a _ _) (no_module d f q _ b) = absurd (never_both words bytes c d s f p q a b)
+one_reply words bytes _ _ (not_built c s p _ a _ _) (no_module d f k q _ b) = absurd (not_both words bytes c d s f k p q a b)
 one_reply words bytes _ _ (not_built _ _ _ _ _ _ _) (not_built _ _ _ _ _ _ _) = refl
 one_reply words bytes _ _ (not_built c s p _ a is none) (a_module d t made q _ b makes) = absurd (never_made words bytes c d s t made p q a b is none makes)
 one_reply words bytes _ _ (a_module c _ _ a _ _ _) (no_command b) = absurd (no_and_some words c b a)
 one_reply words bytes _ _ (a_module _ _ _ _ a _ _) (long_input _ _ b) = absurd (omega arith)
-one_reply words bytes _ _ (a_module c s _ p _ a _) (no_module d f q _ b) = absurd (never_both words bytes c d s f p q a b)
+one_reply words bytes _ _ (a_module c s _ p _ a _) (no_module d f k q _ b) = absurd (not_both words bytes c d s f k p q a b)
 one_reply words bytes _ _ (a_module d t made q _ b makes) (not_built c s p _ a is none) = absurd (never_made words bytes c d s t made p q a b is none makes)
 one_reply words bytes _ _ (a_module c source made p _ found makes) (a_module d other same q _ also remakes) =
     ap printed (one_made words bytes c d source other made same p q found also makes remakes)

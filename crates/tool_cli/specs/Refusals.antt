@@ -1,6 +1,5 @@
 -- How a refusal of the text is told.
 use Rattle.std.specs.Prelude.{ℕ, List, ◌++◌, Option, Some, None, codes, decimal}
-use Rattle.text_kinds.specs.declared.found.Found.{Found}
 use Rattle.text_kinds.specs.declared.found.Kind.{Kind}
 use Rattle.text_kinds.specs.declared.found.Kind.TheVariants as kinds
 use Rattle.tool_cli.specs.declared.status.Status.TheVariants.{Refused, Limit}
@@ -51,9 +50,10 @@ kind_name kinds.Operations = codes "Operations"
 kind_name kinds.ShardFull = codes "ShardFull"
 
 -- a limit by its name and number; another kind by its byte and its name
-abbrev pub told : Found → Option (List ℕ) → Reply
-told found (Some limit) = refusal Limit (codes "limit: " ++ limit)
-told found None = refusal Refused (codes "refused: text at " ++ decimal found.place ++ codes ": " ++ kind_name found.kind)
+abbrev pub told : ℕ → Kind → Option (List ℕ) → Reply
+told place kind (Some limit) = refusal Limit (codes "limit: " ++ limit)
+told place kind None = refusal Refused (codes "refused: text at " ++ decimal place ++ codes ": " ++ kind_name kind)
 
-abbrev pub refused : Found → Reply
-refused found = told found (limit_of found.kind)
+-- a text that is refused at this byte as of this kind
+abbrev pub refused : ℕ → Kind → Reply
+refused place kind = told place kind (limit_of kind)

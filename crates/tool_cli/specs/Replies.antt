@@ -1,9 +1,9 @@
 -- The table of replies: what the program answers to words and an input.
 use Rattle.std.specs.Prelude.{◌≡◌, ℕ, ◌^◌, ◌<◌, ◌≤◌, List, [], length, codes, Some, None}
-use Rattle.text_kinds.specs.declared.found.Found.{Found}
+use Rattle.text_kinds.specs.declared.found.Kind.{Kind}
 use Rattle.tree_model.specs.declared.op_tree.ModuleTree.{ModuleTree}
 use Rattle.text_model.specs.Printed.{module_text}
-use Rattle.module_reader.specs.Reads.{Reads, ReadsNot}
+use Rattle.tree_reading.specs.Reading.{Reads, ReadsNot}
 use Rattle.conv_driver.specs.Modules.{AllFirst}
 use Rattle.tool_cli.specs.declared.status.Status.TheVariants.{Ok, Usage, Refused, Limit}
 use Rattle.tool_cli.specs.declared.command.Command.{Command}
@@ -29,8 +29,8 @@ pub data Out (words : List (List ℕ)) (bytes : List ℕ) : Reply → Type 0 whe
   long_input : (command : Command) → command_of words ≡ Some command → input_limit < length bytes
       → Out words bytes (refusal Limit (codes "limit: input 16777216"))
   -- the text is no module
-  no_module : (command : Command) (found : Found) → command_of words ≡ Some command → length bytes ≤ input_limit → ReadsNot bytes command.allowed found
-      → Out words bytes (refused found)
+  no_module : (command : Command) (place : ℕ) (kind : Kind) → command_of words ≡ Some command → length bytes ≤ input_limit → ReadsNot bytes command.allowed place kind
+      → Out words bytes (refused place kind)
   -- the pass is for other modules
   not_built : (command : Command) (source : ModuleTree) → command_of words ≡ Some command → length bytes ≤ input_limit → Reads bytes command.allowed source
       → command.pass ≡ ConvertArith → (AllFirst source.funcs → ⊥) → Out words bytes (refusal Refused (codes "refused: text at 0: NotBuilt"))

@@ -7,7 +7,7 @@ ghost use Rattle.tool_cli.specs.Told.{refusal};
 use crate::prepared::{Prepared, refuse_line};
 use crate::status::Status;
 use std::alloc::Global;
-use text_kinds::{Found, Kind};
+use text_kinds::Kind;
 use tree_model::{Bytes, NoMemory};
 
 /// The name and the number of a limit that a text passes.
@@ -65,12 +65,12 @@ fn kind_name(kind: Kind) -> &'static str
 }
 
 /// The reply to a text that is refused: a limit by its name and number, another kind by its byte and its name.
-pub fn refused(alloc: Global, found: Found) -> Result<Prepared, NoMemory>
-    ensures { IfOk result (λ p. p ≡ refused found) }
+pub fn refused(alloc: Global, place: usize, kind: Kind) -> Result<Prepared, NoMemory>
+    ensures { IfOk result (λ p. p ≡ refused place kind) }
 {
-    match limit_of(found.kind) {
+    match limit_of(kind) {
         Some(limit) => limited(alloc, limit),
-        None => refused_at(alloc, found.place, kind_name(found.kind)),
+        None => refused_at(alloc, place, kind_name(kind)),
     }
 }
 

@@ -5,7 +5,7 @@ ghost use Rattle.std.specs.Io.KnownBytes.{IsAtEnd, Keeps};
 ghost use Rattle.edge_kit.specs.Edges.{Rose};
 ghost use Rattle.tool_cli.specs.Told.{Reply};
 ghost use Rattle.tool_cli.specs.Replies.{Out};
-ghost use Rattle.module_reader.specs.Reads.{Reads};
+ghost use Rattle.tree_reading.specs.Reading.{Reads};
 ghost use Rattle.tool_cli.specs.Commands.{Commands, command_of};
 ghost use Rattle.tool_cli.specs.Runs.{AreCommand, IsReply, RepliesTo, TakesAll, StopsEarly, RoseAlone, Spares, OneReply};
 
@@ -17,9 +17,9 @@ use crate::refusals::refused;
 use crate::status::Status;
 use edge_kit::{Sink, SinkFault, Source, SureSink, SureSource, Words};
 use generic_printer::print_tree;
-use module_reader::{ReadRefusal, read_tree};
 use std::alloc::{AllocError, Global};
 use tree_model::ModuleTree;
+use tree_reader::{ReadRefusal, read_tree};
 
 /// Why there is no reply.
 pub enum Stop {
@@ -136,7 +136,7 @@ fn reply_to_text(alloc: Global, command: Command, text: &[u8]) -> Result<Prepare
 {
     match read_tree(alloc, text, command.allowed) {
         Ok(source) => reply_to_module(alloc, command, text, source),
-        Err(ReadRefusal::At(found)) => refused(alloc, found),
+        Err(ReadRefusal::At { place, kind }) => refused(alloc, place, kind),
         Err(ReadRefusal::NoMemory) => Err(AllocError),
     }
 }
