@@ -2,3 +2,8 @@ pub mod Recasts
 pub mod Structs
 pub mod Returned
 pub mod CallSets
+pub mod Fields
+pub mod Arguments
+pub mod Called
+pub mod CallTypes
+pub mod CallRow

@@ -90,11 +90,11 @@ module _ (bits : ℕ) (types : List PlainType) (args : List Value) (labels : Lis
     operands_from us xs (j + 1) (omega (arith, same)) (λ i. ap (slice_get types) (omega arith) ∙ at (suc i)) (λ i. ap (slice_get args) (omega arith) ∙ of (suc i)),
   )
 
-from_start : {A : Type 0} (xs : List A) (i : ℕ) → slice_get xs (0 + i) ≡ slice_get xs i
+pub from_start : {A : Type 0} (xs : List A) (i : ℕ) → slice_get xs (0 + i) ≡ slice_get xs i
 from_start xs i = let e : 0 + i ≡ i = omega arith in ap (slice_get xs) e
 
 -- several results stand together
-together_of : (n : ℕ) → packing_of (suc (suc n)) ≡ Together
+pub together_of : (n : ℕ) → packing_of (suc (suc n)) ≡ Together
 together_of n = let e : nat_le (suc (suc n)) 1 ≡ false = grind arith in ap (λ b. if b then Bare else Together) e
 
 many_returned : (bits : ℕ) (t u : PlainType) (ts : List PlainType) (args : List Value) (labels : List ℕ) (next : List Value → Doing) → length args ≡ length (t ∷ u ∷ ts)

@@ -5,12 +5,16 @@ use Rattle.tree_model.specs.declared.type_tree.TypeTree.{TypeTree, fold_out-Type
 use Rattle.tree_model.specs.declared.type_tree.TypeTree as type
 use Rattle.tree_model.specs.declared.type_tree.TypeTree.TheVariants.{outs-Struct}
 use Rattle.number_model.specs.Answers.{Gives, and_then, present}
-use Rattle.operation_model.specs.Values.{Value, values_of, parts_of, together, replaced, with_part, part_at}
+use Rattle.operation_model.specs.Values.{Value, Parts, NoPart, Part, values_of, parts_of, together, replaced, with_part, part_at}
 use Rattle.form_model.specs.Types.{unset_of}
 
 pub values_back : (vs : List Value) → values_of (parts_of vs) ≡ vs
 values_back [] = refl
 values_back (v ∷ vs) = ap (λ l. v ∷ l) (values_back vs)
+
+pub parts_back : (ps : Parts) → parts_of (values_of ps) ≡ ps
+parts_back NoPart = refl
+parts_back (Part v ps) = ap (Part v) (parts_back ps)
 
 -- the part in the middle of a list
 pub middle_get : (done : List Value) (v : Value) (rest : List Value) (n : ℕ) → length done ≡ n → slice_get (done ++ v ∷ rest) n ≡ Some v

@@ -5,4 +5,4 @@
 
 mod laws;
 
-pub use laws::{law_cast_row, law_return_row};
+pub use laws::{law_call_row, law_cast_row, law_return_row};

@@ -1,5 +1,5 @@
 -- Where the arguments of a block are converted, casts at its start give the old ones.
-use Rattle.std.proofs.Common.{◌≡◌, ℕ, zero, suc, ◌+◌, ◌==◌, ◌≤◌, Bool, true, false, List, [], ◌∷◌, ◌++◌, Option, Some, None, length, map, refl, sym, ap, ◌∙◌, subst, arith, true≢false, append_assoc, append-nil}
+use Rattle.std.proofs.Common.{◌≡◌, ℕ, suc, ◌+◌, ◌==◌, ◌≤◌, Bool, true, false, List, [], ◌∷◌, ◌++◌, Option, Some, None, map, refl, sym, ap, ◌∙◌, subst, arith, append_assoc, append-nil}
 use Rattle.std.specs.Prelude.{codes, ◌||◌, if◌then◌else◌}
 use Rattle.std.proofs.lemmas.Bool.{eqb-true}
 use Rattle.conversion_model.proofs.ReconcileLaws.{same_number}
@@ -7,7 +7,7 @@ use Rattle.operation_model.specs.Values.{Value}
 use Rattle.operation_model.specs.Pures.{Moves}
 use Rattle.operation_model.specs.Forms.{Form, Computes}
 use Rattle.operation_model.specs.Straight.{does}
-use Rattle.form_model.specs.Codes.{Env, lookup, lookups, and_value, bind}
+use Rattle.form_model.specs.Codes.{Env, lookup, lookups, bind}
 use Rattle.plain_tree.specs.Types.{PlainType}
 use Rattle.plain_tree.specs.Ops.{Values}
 use Rattle.conversion_model.specs.Types.{new_type}
@@ -17,9 +17,9 @@ use Rattle.sound_model.specs.Runs.{form_at}
 use Rattle.chosen_laws.proofs.Lists.{none_some, some_same}
 use Rattle.chosen_laws.proofs.CastForms.{changes_move}
 use Rattle.code_laws.specs.PlainCodes.{numbers_in}
-use Rattle.sim_laws.proofs.Lines.{Line, Run, Ended, doing_run, line_run, with_values}
+use Rattle.sim_laws.proofs.Lines.{Line, Ended, doing_run, line_run, with_values}
 use Rattle.sim_laws.proofs.Local.{Agree, Restores}
-use Rattle.conversion_laws.proofs.Names.{Distinct, and_values, differ, has_rest, none_distinct, not_same, one_more}
+use Rattle.conversion_laws.proofs.Names.{Distinct, and_values, differ, has_rest, not_same, one_more}
 
 -- the lines of the casts
 abbrev pub cast_line : ℕ → (ℕ → PlainType) → ℕ → ℕ × PlainType → Line

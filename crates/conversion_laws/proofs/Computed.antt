@@ -1,15 +1,12 @@
 -- A sound template that is written down keeps to the operation that it replaces.
-use Rattle.std.proofs.Common.{◌≡◌, ◌⊎◌, inl, inr, ℕ, suc, ◌==◌, Bool, true, false, List, [], ◌∷◌, Option, Some, None, length, map, refl, sym, ap, ◌∙◌, subst, arith, true≢false}
-use Rattle.std.specs.Prelude.{◌||◌, if◌then◌else◌}
+use Rattle.std.proofs.Common.{◌≡◌, ◌⊎◌, inl, inr, ℕ, suc, ◌==◌, Bool, true, false, List, [], ◌∷◌, Option, Some, None, length, map, refl, sym, ap, ◌∙◌, subst, arith}
+use Rattle.std.specs.Prelude.{if◌then◌else◌}
 use Rattle.conversion_model.proofs.ReconcileLaws.{same_number}
 use Rattle.operation_model.specs.Values.{Value}
 use Rattle.operation_model.specs.Doings.{Doing, Ends, Asks, Calls, Jumps, Returns, Undefined, Outside}
-use Rattle.operation_model.specs.Forms.{Form}
 use Rattle.operation_model.specs.Straight.{does}
 use Rattle.form_model.specs.Codes.{Env, lookup, lookups, bind}
 use Rattle.plain_tree.specs.Types.{PlainType}
-use Rattle.plain_tree.specs.Ops.{Values}
-use Rattle.conversion_model.specs.declared.templates.Source.{Source}
 use Rattle.conversion_model.specs.Templates.{Template, named, number_of}
 use Rattle.conversion_model.specs.Targets.{Shape}
 use Rattle.rule_model.specs.Words.{has}
@@ -18,11 +15,10 @@ use Rattle.sound_model.specs.Runs.{counted, if_there, items_of, root_form}
 use Rattle.sound_model.specs.Soundness.{IsReplaceable, Sound}
 use Rattle.chosen_laws.proofs.Lists.{none_some, some_same}
 use Rattle.chosen_laws.proofs.Derivations.{mapped_count}
-use Rattle.code_laws.specs.PlainCodes.{numbers_in, types_in}
-use Rattle.sim_laws.proofs.Lines.{Line, Run, Ended, Asked, Called, Jumped, Returned, line_run}
+use Rattle.sim_laws.proofs.Lines.{Run, Ended, line_run}
 use Rattle.sim_laws.proofs.Local.{Agree, Computing, Each, Meets, SettledMeets, lookups_agree}
-use Rattle.conversion_laws.proofs.Names.{Distinct, Named, NewNumbers, both_values, found_values, one_name}
-use Rattle.conversion_laws.proofs.Written.{Holds, StepsTyped, Tracks, steps_lines, steps_track}
+use Rattle.conversion_laws.proofs.Names.{Named, both_values, found_values}
+use Rattle.conversion_laws.proofs.Written.{StepsTyped, Tracks, steps_lines, steps_track}
 use Rattle.conversion_laws.proofs.Quiet.{NoJumps, bound_at, quiet}
 
 lookups_count : (os : List ℕ) (env : Env) (vs : List Value) → lookups os env ≡ Some vs → length vs ≡ length os

@@ -1,20 +1,17 @@
 -- The names of the values of a template that is written down.
-use Rattle.std.proofs.Common.{◌≡◌, ◌⊎◌, inl, inr, ℕ, zero, suc, ◌+◌, ◌==◌, ◌≤◌, Bool, true, false, List, [], ◌∷◌, ◌++◌, Option, Some, None, length, map, get_or, refl, sym, ap, ◌∙◌, subst, arith, true≢false}
+use Rattle.std.proofs.Common.{◌≡◌, ◌⊎◌, inl, inr, ℕ, zero, suc, ◌==◌, Bool, true, false, List, [], ◌∷◌, Option, Some, None, map, get_or, refl, sym, ap, ◌∙◌, subst, arith, true≢false}
 use Rattle.std.specs.Prelude.{slice_get, ◌||◌, if◌then◌else◌}
 use Rattle.std.proofs.lemmas.Bool.{eqb-true}
 use Rattle.conversion_model.proofs.ReconcileLaws.{same_number}
 use Rattle.operation_model.specs.Values.{Value}
-use Rattle.form_model.specs.Codes.{Env, lookup, lookups, and_value, bind}
+use Rattle.form_model.specs.Codes.{Env, lookup, lookups, and_value}
 use Rattle.plain_tree.specs.Types.{PlainType}
-use Rattle.plain_tree.specs.Ops.{Values}
 use Rattle.conversion_model.specs.declared.templates.Source.{Source}
 use Rattle.conversion_model.specs.declared.templates.Source.TheVariants.{Operand, Made}
-use Rattle.conversion_model.specs.Templates.{label_at, labels_at, named, number_of, values_made}
+use Rattle.conversion_model.specs.Templates.{label_at, labels_at, named, number_of}
 use Rattle.rule_model.specs.Words.{has}
 use Rattle.sound_model.specs.Runs.{item_of, items_of, labels_in}
-use Rattle.chosen_laws.proofs.Lists.{Both, and_both, both, none_some, some_same}
-use Rattle.code_laws.specs.PlainCodes.{numbers_in, types_in}
-use Rattle.sim_laws.proofs.Local.{Agree, Each}
+use Rattle.chosen_laws.proofs.Lists.{Both, both, none_some, some_same}
 
 -- Numbers
 

@@ -1,6 +1,6 @@
 -- Chosen derivations in which each result is a value that was made, and no step is a copy.
 use Rattle.std.proofs.Common.{◌≡◌, ◌⊎◌, inl, inr, ℕ, zero, suc, ◌+◌, ◌==◌, ◌≤◌, Bool, true, false, List, [], ◌∷◌, ◌++◌, Option, Some, None, length, map, get_or, refl, sym, ap, ◌∙◌, subst, arith, true≢false, append_assoc, append-nil}
-use Rattle.std.specs.Prelude.{slice_get, codes, bytes_eq, ◌||◌, if◌then◌else◌}
+use Rattle.std.specs.Prelude.{slice_get, bytes_eq, ◌||◌, if◌then◌else◌}
 use Rattle.std.specs.List.{list_any}
 use Rattle.std.proofs.lemmas.Slice.Eq.{bytes_eq-Decides}
 use Rattle.conversion_model.proofs.ReconcileLaws.{same_number}
@@ -9,12 +9,11 @@ use Rattle.plain_tree.specs.Ops.{Values}
 use Rattle.conversion_model.specs.declared.templates.Source.{Source}
 use Rattle.conversion_model.specs.declared.templates.Source.TheVariants.{Operand, Made}
 use Rattle.conversion_model.specs.Types.{or_same}
-use Rattle.conversion_model.specs.Templates.{Step, Template, copies, copy, copy_name, named, number_of, numbers}
+use Rattle.conversion_model.specs.Templates.{Step, Template, copies, copy, copy_name, named, numbers}
 use Rattle.conversion_model.specs.Targets.{Shape, Target, is_legal}
 use Rattle.conversion_model.specs.Rows.{Row, Straight, Cutting, Framing, Pattern}
-use Rattle.conversion_model.specs.Chosen.{Ending, Leaves, Ranked, State, after, and_then, by_first, by_row, by_template, cast, change_of, chosen, chosen_within, give_one, give_results, has_root, here, itself, moved_step, nothing_yet, or_else, order, placed, places, product, products, ranked, take_one, take_operands, with_moved, with_operand}
-use Rattle.sound_model.specs.Runs.{root_form}
-use Rattle.sound_model.specs.Soundness.{FitIfRoot, IsFit, PatternSound, PatternsSound, RowHolds, RowSound, RowsSound, StepsFit, all_changed, is_root, step_shape}
+use Rattle.conversion_model.specs.Chosen.{Ending, Leaves, Ranked, State, after, by_first, by_row, by_template, change_of, chosen, chosen_within, give_one, give_results, has_root, here, itself, moved_step, or_else, order, placed, places, product, products, ranked, take_one, take_operands, with_operand}
+use Rattle.sound_model.specs.Soundness.{FitIfRoot, IsFit, PatternSound, PatternsSound, RowSound, RowsSound, StepsFit, all_changed, is_root, step_shape}
 use Rattle.chosen_laws.proofs.Lists.{none_some, some_same}
 use Rattle.chosen_laws.proofs.Derivations.{length_joined, parts, types_are}
 use Rattle.chosen_laws.proofs.Casts.{changed_joined}

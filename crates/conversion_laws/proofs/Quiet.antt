@@ -1,28 +1,23 @@
 -- What a template may replace: an operation that jumps has no results.
-use Rattle.std.proofs.Common.{◌≡◌, ◌⊎◌, inl, inr, ℕ, Bool, true, false, List, [], ◌∷◌, Option, Some, None, length, refl, sym, ap, ◌∙◌, subst, arith, true≢false}
+use Rattle.std.proofs.Common.{◌≡◌, ◌⊎◌, inl, inr, ℕ, Bool, true, false, List, [], ◌∷◌, Some, refl, sym, ap, ◌∙◌, true≢false}
 use Rattle.std.specs.Prelude.{◌==◌, ◌||◌, if◌then◌else◌, ◌&&◌, ◌%◌}
 use Rattle.std.proofs.lemmas.Bool.{eqb-true}
-use Rattle.conversion_model.proofs.ReconcileLaws.{same_number}
 use Rattle.number_model.specs.Numbers.{unsigned}
 use Rattle.number_model.specs.Answers.{Answer, Gives}
 use Rattle.number_model.specs.Answers.{Answer as answer}
 use Rattle.operation_model.specs.Values.{Value, allocated_path, number, part_at, place_of}
 use Rattle.operation_model.specs.Pures.{element_place, gives}
-use Rattle.operation_model.specs.Doings.{Doing, Ends, Asks, Calls, Jumps, Returns, Undefined, Outside, Question, on}
+use Rattle.operation_model.specs.Doings.{Doing, Ends, Asks, Calls, Jumps, Returns, Undefined, Outside, on}
 use Rattle.operation_model.specs.Calling.{spread, unpacked}
 use Rattle.operation_model.specs.Forms.{Form, Computes, Branch, BranchOn, Call, Return, Load, Store, Allocate, AllocateAligned, Free, NewMemref, EndMemref, LoadElement, StoreElement, If, For, While, Switch, Execute, Yield, Condition, Unknown}
 use Rattle.operation_model.specs.Straight.{Size, allocate_at, byte_size, does, is_alignment, load, memref_at, sizes_from, store}
 use Rattle.form_model.specs.Codes.{Env, lookup, lookups, bind}
 use Rattle.plain_tree.specs.Types.{PlainType}
 use Rattle.rule_model.specs.Words.{has}
-use Rattle.sound_model.specs.Refinement.{Refines, settled_then, then_on}
-use Rattle.sound_model.specs.Runs.{counted}
 use Rattle.sound_model.specs.Soundness.{IsReplaceable}
 use Rattle.chosen_laws.proofs.Lists.{none_some, some_same}
-use Rattle.sim_laws.proofs.Lines.{IsStructured, Run, Ended, Asked, Called, Jumped, Returned}
-use Rattle.sim_laws.proofs.Local.{Agree, Meets, SettledMeets}
+use Rattle.sim_laws.proofs.Lines.{IsStructured}
 use Rattle.conversion_laws.proofs.Names.{both_values}
-use Rattle.conversion_laws.proofs.Written.{Tracks}
 
 -- no jump
 abbrev pub NoJumps : Doing → Type 0

@@ -1,17 +1,16 @@
 -- The whole conversion as the tree by recursion: without copies, with the arguments of blocks converted where the pass says so.
-use Rattle.std.proofs.Common.{◌≡◌, ℕ, ◌+◌, ◌==◌, Bool, true, false, List, [], ◌∷◌, Option, Some, None, Result, Ok, Err, length, map, refl, sym, ap, ◌∙◌, subst, true≢false}
-use Rattle.std.specs.Prelude.{bytes_eq, not, if◌then◌else◌}
+use Rattle.std.proofs.Common.{◌≡◌, ℕ, ◌+◌, ◌==◌, Bool, true, false, List, [], ◌∷◌, Option, Some, None, Result, Ok, Err, length, map, refl, sym, ap, ◌∙◌, subst}
+use Rattle.std.specs.Prelude.{not, if◌then◌else◌}
 use Rattle.plain_tree.specs.Types.{PlainType}
 use Rattle.plain_tree.specs.Ops.{Kind, Op, op, Ops, end_of_ops, more_ops, Regions, end_of_regions, region, Blocks, end_of_blocks, block, Values}
 use Rattle.plain_tree.specs.Values.{types_of}
 use Rattle.conversion_model.specs.declared.templates.Source.{Source}
-use Rattle.conversion_model.specs.Types.{new_type}
-use Rattle.conversion_model.specs.Templates.{Step, Template, copies, copy, copy_name, named, number_of, numbers, step_op, steps_written, written}
+use Rattle.conversion_model.specs.Templates.{Step, Template, copies, copy, named, number_of, numbers, step_op, steps_written, written}
 use Rattle.conversion_model.specs.Targets.{Shape, Partial, demanded, is_legal, shape_of}
 use Rattle.conversion_model.specs.Chosen.{chosen}
 use Rattle.conversion_model.specs.Items.{op_size, ops_size, blocks_size}
 use Rattle.conversion_model.specs.Uses.{copies_left_out}
-use Rattle.conversion_model.specs.Conversion.{Pass, Supply, Unlegalised, cast_back, casts_back, conv, converted, finished, line_by, line_of, op_blocks, ops_blocks, or_fails, regions_of, regions_blocks, blocks_blocks, replacements, with_blocks}
+use Rattle.conversion_model.specs.Conversion.{Pass, Supply, Unlegalised, conv, finished, line_by, line_of, op_blocks, ops_blocks, or_fails, regions_of, regions_blocks, blocks_blocks, replacements, with_blocks}
 use Rattle.conversion_laws.specs.NewTrees.{args_at, front_at, new_blocks, new_function, new_op, new_ops, new_regions, ops_front, source_at}
 use Rattle.conversion_laws.proofs.Texts.{OpBare, OpsBare, RegionsBare, BlocksBare, StraightTable, nothing_left_out, replacements_are}
 use Rattle.conversion_laws.proofs.Trees.{OpIsOk, OpsOk, RegionsOk, BlocksOk, StepsBare, line_cases}

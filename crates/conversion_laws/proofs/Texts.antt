@@ -1,20 +1,18 @@
 -- By a table of straight rows, and where there is no copy, the conversion is the tree by recursion.
-use Rattle.std.proofs.Common.{◌≡◌, ◌⊎◌, inl, inr, ℕ, zero, suc, ◌+◌, ◌==◌, Bool, true, false, List, [], ◌∷◌, ◌++◌, Option, Some, None, length, map, refl, sym, ap, ◌∙◌, subst, true≢false, map-id}
-use Rattle.std.specs.Prelude.{codes, bytes_eq, not, ◌&&◌, if◌then◌else◌}
+use Rattle.std.proofs.Common.{◌≡◌, ℕ, ◌+◌, Bool, true, false, List, [], ◌∷◌, ◌++◌, Option, Some, None, map, refl, ap, ◌∙◌}
+use Rattle.std.specs.Prelude.{bytes_eq, if◌then◌else◌}
 use Rattle.plain_tree.specs.Types.{PlainType}
-use Rattle.plain_tree.specs.Ops.{Kind, Op, op, Ops, end_of_ops, more_ops, Regions, end_of_regions, region, Blocks, end_of_blocks, block, Values}
+use Rattle.plain_tree.specs.Ops.{Op, op, Ops, end_of_ops, more_ops, Regions, end_of_regions, region, Blocks, end_of_blocks, block}
 use Rattle.plain_tree.specs.Values.{types_of}
-use Rattle.conversion_model.specs.declared.templates.Source.{Source}
-use Rattle.conversion_model.specs.Types.{new_type}
-use Rattle.conversion_model.specs.Templates.{Step, Template, copies, copy, copy_name, labels_at, named, number_of, numbers, steps_written, written}
-use Rattle.conversion_model.specs.Targets.{Shape, Target, Mode, Partial, demanded, is_legal, name_of, shape_of}
+use Rattle.conversion_model.specs.Templates.{Template, copy_name}
+use Rattle.conversion_model.specs.Targets.{Target, demanded, is_legal, name_of, shape_of}
 use Rattle.conversion_model.specs.Rows.{Row, Straight, Cutting, Framing, Pattern, Numbers, Piece}
 use Rattle.conversion_model.specs.Chosen.{Leaves, Ranked, and_then, by_row, chosen, goes_before, has_root, in_order, or_else, order, put_in, ranked}
 use Rattle.conversion_model.specs.Choice.{Choice, Stays, Cuts, Frames, choice, first_choice, row_choice}
 use Rattle.conversion_model.specs.Choice as choices
-use Rattle.conversion_model.specs.Items.{Begins, HeldBlock, Item, Puts, Text, Ways, held_blocks, held_regions, items, op_at, op_items, op_size, ops_size, blocks_size, puts, text_of, whole_items, whole_regions}
-use Rattle.conversion_model.specs.Uses.{copies_in, copies_left_out, followed, is_copy, op_listed, op_uses, op_without, operations, ops_listed, ops_uses, ops_without, regions_listed, regions_uses, regions_without, blocks_listed, blocks_uses, blocks_without, pair_in}
-use Rattle.conversion_model.specs.Conversion.{Pass, Supply, cast_back, casts_back, choice_in, converted, function_by, line_by, line_of, op_blocks, ops_blocks, pieces_of, regions_blocks, blocks_blocks, regions_of, replacements, ways, with_blocks, finished}
+use Rattle.conversion_model.specs.Items.{Item, Text, Ways, held_blocks, held_regions, items, op_at, op_items, op_size, ops_size, blocks_size, puts, text_of, whole_items, whole_regions}
+use Rattle.conversion_model.specs.Uses.{copies_in, copies_left_out, followed, is_copy, op_listed, op_uses, op_without, ops_listed, ops_uses, ops_without, regions_listed, regions_uses, regions_without, blocks_listed, blocks_uses, blocks_without, pair_in}
+use Rattle.conversion_model.specs.Conversion.{Pass, Supply, choice_in, function_by, line_of, pieces_of, regions_of, replacements, ways}
 use Rattle.conversion_laws.specs.NewTrees.{new_blocks, new_function, new_op, new_ops, new_regions, ops_front, source_at}
 
 -- No cuts and no frames

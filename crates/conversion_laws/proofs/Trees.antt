@@ -1,8 +1,7 @@
 -- The tree behind a conversion is one in which operations are replaced by lines that keep to them.
-use Rattle.std.proofs.Common.{◌≡◌, ◌⊎◌, inl, inr, ℕ, zero, suc, ◌+◌, ◌==◌, Bool, true, false, List, [], ◌∷◌, ◌++◌, Option, Some, None, length, map, get_or, refl, sym, ap, ◌∙◌, subst, arith, true≢false}
-use Rattle.std.specs.Prelude.{bytes_eq, codes, slice_get, not, ◌&&◌, ◌||◌, if◌then◌else◌}
+use Rattle.std.proofs.Common.{◌≡◌, ◌⊎◌, inl, inr, ℕ, zero, suc, ◌+◌, ◌==◌, Bool, true, false, List, [], ◌∷◌, ◌++◌, Option, Some, None, length, map, refl, sym, ap, ◌∙◌, subst, arith, true≢false}
+use Rattle.std.specs.Prelude.{bytes_eq, codes, slice_get, not, ◌||◌, if◌then◌else◌}
 use Rattle.std.proofs.lemmas.Bool.{eqb-true}
-use Rattle.conversion_model.proofs.ReconcileLaws.{same_number}
 use Rattle.form_model.specs.Codes as code
 use Rattle.plain_tree.specs.Types.{PlainType}
 use Rattle.plain_tree.specs.Ops.{Kind, Op, op, Ops, end_of_ops, more_ops, Regions, end_of_regions, region, Blocks, end_of_blocks, block, Values}
@@ -15,7 +14,7 @@ use Rattle.conversion_model.specs.Chosen.{chosen}
 use Rattle.conversion_model.specs.Items.{op_size, ops_size, blocks_size}
 use Rattle.conversion_model.specs.Conversion.{Pass, Supply, cast_back, casts_back, line_by, line_of, new_argument, new_arguments}
 use Rattle.rule_model.specs.Words.{has}
-use Rattle.sound_model.specs.Runs.{form_at, item_of, items_of, root_form, types_made}
+use Rattle.sound_model.specs.Runs.{form_at, items_of, root_form, types_made}
 use Rattle.sound_model.specs.Soundness.{IsReplaceable, Sound}
 use Rattle.chosen_laws.proofs.Derivations.{mapped_count}
 use Rattle.chosen_laws.proofs.Lists.{both, none_some, some_same}
@@ -23,7 +22,7 @@ use Rattle.code_laws.specs.PlainCodes.{blocks_codes, numbers_in, op_codes, ops_c
 use Rattle.sim_laws.proofs.Lines.{Line, in_front}
 use Rattle.sim_laws.proofs.Local.{Each, SameBlocks, SameEntry, SameOps, SameRegions, keeps, restores_itself, same_block, same_blocks_end, same_end, same_entry, same_entry_end, same_region, same_regions_end, swaps}
 use Rattle.conversion_laws.specs.NewTrees.{args_at, front_at, new_blocks, new_op, new_ops, new_regions, ops_front, source_at}
-use Rattle.conversion_laws.proofs.Names.{Distinct, NewNumbers, TypesNamed, differ, has_rest, name_is, not_same, one_name}
+use Rattle.conversion_laws.proofs.Names.{Distinct, TypesNamed, differ, name_is, not_same, one_name}
 use Rattle.conversion_laws.proofs.Written.{MadeTyped, StepsTyped, steps_lines}
 use Rattle.conversion_laws.proofs.Quiet.{unstructured}
 use Rattle.conversion_laws.proofs.Computed.{Replaced, written_computes}

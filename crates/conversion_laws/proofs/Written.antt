@@ -1,27 +1,22 @@
 -- A sound template that is written down does what its operation does.
-use Rattle.std.proofs.Common.{◌≡◌, ◌⊎◌, inl, inr, ℕ, zero, suc, ◌+◌, ◌==◌, ◌≤◌, Bool, true, false, List, [], ◌∷◌, ◌++◌, Option, Some, None, length, map, get_or, refl, sym, ap, ◌∙◌, subst, arith, true≢false, append_assoc, append-nil}
-use Rattle.std.specs.Prelude.{slice_get, ◌||◌, if◌then◌else◌}
+use Rattle.std.proofs.Common.{◌≡◌, ◌⊎◌, inl, inr, ℕ, zero, suc, ◌+◌, ◌==◌, Bool, true, false, List, [], ◌∷◌, ◌++◌, Option, Some, None, length, map, refl, sym, ap, ◌∙◌, subst, arith, append_assoc, append-nil}
+use Rattle.std.specs.Prelude.{slice_get, if◌then◌else◌}
 use Rattle.std.proofs.lemmas.Bool.{eqb-true}
 use Rattle.conversion_model.proofs.ReconcileLaws.{same_number}
 use Rattle.operation_model.specs.Values.{Value}
 use Rattle.operation_model.specs.Doings.{Doing, Ends, Asks, Calls, Jumps, Returns, Undefined, Outside}
-use Rattle.operation_model.specs.Forms.{Form}
 use Rattle.operation_model.specs.Straight.{does}
 use Rattle.form_model.specs.Codes.{Env, lookup, lookups, and_value, bind}
 use Rattle.plain_tree.specs.Types.{PlainType}
-use Rattle.plain_tree.specs.Ops.{Values}
-use Rattle.conversion_model.specs.declared.templates.Source.{Source}
-use Rattle.conversion_model.specs.declared.templates.Source.TheVariants.{Operand, Made}
-use Rattle.conversion_model.specs.Templates.{Step, Template, labels_at, named, number_of, values_made}
+use Rattle.conversion_model.specs.Templates.{Step, labels_at, named, number_of, values_made}
 use Rattle.rule_model.specs.Words.{has}
-use Rattle.sound_model.specs.Refinement.{Refines, settled_then, then_on}
-use Rattle.sound_model.specs.Runs.{counted, form_at, if_there, item_of, items_of, labels_in, operation_runs, steps_run, template_runs}
-use Rattle.chosen_laws.proofs.Lists.{Both, get_at_end, get_more, none_some, some_same}
+use Rattle.sound_model.specs.Refinement.{settled_then, then_on}
+use Rattle.sound_model.specs.Runs.{counted, form_at, if_there, items_of, labels_in, operation_runs, steps_run}
+use Rattle.chosen_laws.proofs.Lists.{none_some, some_same}
 use Rattle.chosen_laws.proofs.Derivations.{length_joined}
 use Rattle.code_laws.specs.PlainCodes.{numbers_in, types_in}
-use Rattle.sim_laws.proofs.Lines.{Line, Run, Ended, Asked, Called, Jumped, Returned, Stuck, doing_run, line_run, settled_run, with_env, with_values}
-use Rattle.sim_laws.proofs.Local.{Agree, Meets, SettledMeets}
-use Rattle.conversion_laws.proofs.Names.{Named, TypesNamed, and_values, both_values, differ, found_labels, found_types, found_values, has_rest, not_same}
+use Rattle.sim_laws.proofs.Lines.{Line, Run, Ended, Asked, Called, Jumped, Returned, doing_run, line_run, settled_run, with_env, with_values}
+use Rattle.conversion_laws.proofs.Names.{Named, TypesNamed, differ, found_labels, found_types, found_values, has_rest, not_same}
 
 -- the line of a step
 abbrev pub step_line : ℕ → (ℕ → PlainType) → (ℕ → ℕ) → List ℕ → List ℕ → ℕ → Step → Line

@@ -4,3 +4,4 @@ pub mod ReaderLaws
 pub mod FinishLaws
 pub mod ToTreeLaws
 pub mod ModuleLaws
+pub mod CellLaws

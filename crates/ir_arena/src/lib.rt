@@ -17,6 +17,7 @@ mod numbering;
 mod op_nodes;
 mod pushing;
 mod readers;
+mod steps;
 mod to_trees;
 mod values;
 

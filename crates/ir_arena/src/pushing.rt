@@ -26,7 +26,7 @@ pub fn or_fault<T>(answer: Result<T, NoMemory>) -> Result<T, InternFault>
 }
 
 /// The number of the next item behind so many.
-fn next(count: usize) -> Result<u32, NoMemory>
+pub fn next(count: usize) -> Result<u32, NoMemory>
     ensures { IfOk result (λ number. number ≡ count) }
 {
     match u32::try_from(count) {

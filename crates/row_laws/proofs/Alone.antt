@@ -17,7 +17,7 @@ use Rattle.sound_model.proofs.Refining.{refines_refl, then_on_refines}
 if_counted : (m n : ℕ) → (m == n) ≡ true → m ≡ n
 if_counted m n h = grind arith
 
-counted_too : (results makes : List PlainType) (ys : List Value) (d e : Doing) → length makes ≡ length results → (length ys ≡ length makes → Refines d e)
+pub counted_too : (results makes : List PlainType) (ys : List Value) (d e : Doing) → length makes ≡ length results → (length ys ≡ length makes → Refines d e)
     → Refines (counted results ys d) (counted makes ys e)
 counted_too results makes ys d e same h = subst (λ n. Refines (counted results ys d) (if length ys == n then e else Outside)) (sym same) (go (length ys == length results) refl)
   where

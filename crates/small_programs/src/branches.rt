@@ -1,12 +1,14 @@
 //! Programs with branches and calls.
 
-use crate::lines::{Line, Note, Ty, block, constant, defined, plain, module};
+use crate::lines::{Line, Note, Ty, block, constant, defined, module, plain};
 use sqlite_items::Items;
 use std::alloc::Global;
 use tree_model::{BlockTree, ModuleTree, NoMemory};
 
 const I: Ty = Ty::Int(32);
+
 const L: Ty = Ty::Int(64);
+
 const B: Ty = Ty::Int(1);
 
 /// A function `f` that is 0 at 0 and else one more than itself at one less.

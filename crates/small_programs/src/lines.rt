@@ -160,11 +160,7 @@ pub fn block(
 }
 
 /// The operation of a line that holds a region of one block.
-pub fn holding(
-    alloc: Global,
-    line: &Line<'_>,
-    block: BlockTree,
-) -> Result<OpTree, NoMemory> {
+pub fn holding(alloc: Global, line: &Line<'_>, block: BlockTree) -> Result<OpTree, NoMemory> {
     let mut holder = op(alloc, line)?;
     holder.regions.push(RegionTree {
         blocks: one(alloc, block)?,

@@ -1,10 +1,13 @@
 //! Programs with loops of the structured level.
 
-use crate::lines::{Line, Note, Ty, add, block, constant, declared, defined, holding, plain, module};
+use crate::lines::{
+    Line, Note, Ty, add, block, constant, declared, defined, holding, module, plain,
+};
 use std::alloc::Global;
 use tree_model::{ModuleTree, NoMemory, one};
 
 const I: Ty = Ty::Int(32);
+
 const N: Ty = Ty::Index;
 
 /// A function `f` that counts from -2 to 3 by a step, carries 0 and adds 5 in each round.

@@ -1,6 +1,6 @@
 //! Programs without loops.
 
-use crate::lines::{Line, Note, Ty, block, constant, declared, defined, plain, module};
+use crate::lines::{Line, Note, Ty, block, constant, declared, defined, module, plain};
 use std::alloc::Global;
 use tree_model::{ModuleTree, NoMemory, one};
 

@@ -4,3 +4,4 @@ pub mod RowLaws
 pub mod PlaceLaws
 pub mod ClashLaws
 pub mod TypeLaws
+pub mod OrderLaws

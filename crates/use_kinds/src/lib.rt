@@ -10,4 +10,4 @@ mod types;
 
 pub use clashes::first_clash;
 pub use indexed::Indexed;
-pub use laws::law_one_term_for_a_type;
+pub use laws::{law_one_term_for_a_type, law_operands, law_results};

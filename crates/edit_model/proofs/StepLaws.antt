@@ -1,0 +1,77 @@
+-- What each step's undoing gives.
+use Rattle.std.proofs.Common.{◌≡◌, ℕ, zero, suc, ◌<◌, ◌≤◌, ◌+◌, ◌-◌, List, [], ◌∷◌, ◌++◌, length, get_or, set, take, drop, refl, sym, ap, subst, ◌∙◌, arith}
+use Rattle.std.specs.Prelude.{insert, remove}
+use Rattle.std.proofs.lemmas.List.{length_push, take_at, drop_at, length-take-le, set-set, set-get_or, get_or-set_same, get_or_default, length-set, drop_more, take-append-drop, drop-drop, length-append, length-drop, length-take}
+use Rattle.key_model.specs.declared.handle.Handle.{Handle}
+use Rattle.flat_model.specs.declared.nodes.OpNode.{OpNode}
+use Rattle.flat_model.specs.Flat.{BlockNode, Flat, no_op, no_block, op_at, block_at}
+use Rattle.edit_model.specs.declared.step.Step.{Step}
+use Rattle.edit_model.specs.declared.step.Step.TheVariants.{Begin, OpAdded, OpListed, OpUnlisted, OperandSet}
+use Rattle.edit_model.specs.Writes.{with_ops, with_operand, with_op}
+use Rattle.edit_model.specs.Journal.{undone}
+
+drop-one : (k : ℕ) (xs : List ℕ) → drop 1 (drop k xs) ≡ drop (suc k) xs
+drop-one k xs = let e : k + 1 ≡ suc k = omega arith in drop-drop 1 k xs ∙ ap (λ n. drop n xs) e
+
+drop-next : (xs : List ℕ) (k : ℕ) → k < length xs → drop k xs ≡ get_or xs k 0 ∷ drop (suc k) xs
+drop-next xs k h = let e : k + 1 ≡ suc k = omega arith in drop_more xs k 0 h ∙ ap (λ n. get_or xs k 0 ∷ drop n xs) e
+
+-- what is put in is taken out again
+removed_again : (xs : List ℕ) (at x : ℕ) → at ≤ length xs → remove (insert xs at x) at ≡ xs
+removed_again xs at x h = let l : length (take at xs) ≡ at = length-take-le at xs h in
+    ap (λ ys. ys ++ drop (suc at) (insert xs at x)) (take_at (take at xs) (x ∷ drop at xs) at l)
+    ∙ ap (λ ys. take at xs ++ ys) (sym (drop-one at (insert xs at x)) ∙ ap (drop 1) (drop_at (take at xs) (x ∷ drop at xs) at l))
+    ∙ take-append-drop at xs
+
+-- what is taken out is put in again
+inserted_again : (xs : List ℕ) (at : ℕ) → at < length xs → insert (remove xs at) at (get_or xs at 0) ≡ xs
+inserted_again xs at h = let l : length (take at xs) ≡ at = length-take-le at xs (omega arith) in
+    ap (λ ys. ys ++ get_or xs at 0 ∷ drop at (remove xs at)) (take_at (take at xs) (drop (suc at) xs) at l)
+    ∙ ap (λ ys. take at xs ++ get_or xs at 0 ∷ ys) (drop_at (take at xs) (drop (suc at) xs) at l)
+    ∙ ap (λ ys. take at xs ++ ys) (sym (drop-next xs at h))
+    ∙ take-append-drop at xs
+
+block_written : (f : Flat) (block : ℕ) (node : BlockNode) → block < length f.blocks → block_at (record f { blocks = set f.blocks block node }) block ≡ node
+block_written f block node h = get_or-set_same f.blocks block node no_block h
+
+-- the operations of a block written twice
+ops_twice : (f : Flat) (block : ℕ) (xs ys : List ℕ) → block < length f.blocks → with_ops (with_ops f block xs) block ys ≡ with_ops f block ys
+ops_twice f block xs ys h =
+    ap (λ (n : BlockNode). record f { blocks = set (set f.blocks block (record (block_at f block) { ops = xs })) block (record n { ops = ys }) }) (block_written f block (record (block_at f block) { ops = xs }) h)
+    ∙ ap (λ bs. record f { blocks = bs }) (set-set f.blocks block (record (block_at f block) { ops = xs }) (record (block_at f block) { ops = ys }))
+
+ops_same : (f : Flat) (block : ℕ) → with_ops f block (block_at f block).ops ≡ f
+ops_same f block = ap (λ bs. record f { blocks = bs }) (set-get_or f.blocks block no_block)
+
+ops_read : (f : Flat) (block : ℕ) (xs : List ℕ) → block < length f.blocks → (block_at (with_ops f block xs) block).ops ≡ xs
+ops_read f block xs h = ap (λ (n : BlockNode). n.ops) (block_written f block (record (block_at f block) { ops = xs }) h)
+
+pub listed_back : (f : Flat) (block at op : ℕ) → block < length f.blocks → at ≤ length (block_at f block).ops
+    → undone (OpListed block at) (with_ops f block (insert (block_at f block).ops at op)) ≡ f
+listed_back f block at op h k = let xs = (block_at f block).ops in let g : Flat = with_ops f block (insert xs at op) in
+    ap (λ ys. with_ops g block (remove ys at)) (ops_read f block (insert xs at op) h)
+    ∙ ops_twice f block (insert xs at op) (remove (insert xs at op) at) h
+    ∙ ap (λ ys. with_ops f block ys) (removed_again xs at op k) ∙ ops_same f block
+
+pub unlisted_back : (f : Flat) (block at : ℕ) → block < length f.blocks → at < length (block_at f block).ops
+    → undone (OpUnlisted block at (get_or (block_at f block).ops at 0)) (with_ops f block (remove (block_at f block).ops at)) ≡ f
+unlisted_back f block at h k = let xs = (block_at f block).ops in let x = get_or xs at 0 in let g : Flat = with_ops f block (remove xs at) in
+    ap (λ ys. with_ops g block (insert ys at x)) (ops_read f block (remove xs at) h)
+    ∙ ops_twice f block (remove xs at) (insert (remove xs at) at x) h
+    ∙ ap (λ ys. with_ops f block ys) (inserted_again xs at k) ∙ ops_same f block
+
+operand_at : (f : Flat) (op at value : ℕ) → op < length f.ops → op_at (with_operand f op at value) op ≡ record (op_at f op) { operands = set (op_at f op).operands at value }
+operand_at f op at value h = get_or-set_same f.ops op (record (op_at f op) { operands = set (op_at f op).operands at value }) no_op h
+
+pub operand_back : (f : Flat) (op at value : ℕ) → op < length f.ops
+    → undone (OperandSet op at (get_or (op_at f op).operands at 0)) (with_operand f op at value) ≡ f
+operand_back f op at value h = let xs = (op_at f op).operands in let x = get_or xs at 0 in let n : OpNode = record (op_at f op) { operands = set xs at value } in
+    ap (λ (m : OpNode). record f { ops = set (set f.ops op n) op (record m { operands = set m.operands at x }) }) (operand_at f op at value h)
+    ∙ ap (λ os. record f { ops = os }) (set-set f.ops op n (record n { operands = set (set xs at value) at x }))
+    ∙ ap (λ ys. record f { ops = set f.ops op (record (op_at f op) { operands = ys }) }) (set-set xs at value x ∙ set-get_or xs at 0)
+    ∙ ap (λ os. record f { ops = os }) (set-get_or f.ops op no_op)
+
+pub added_back : (f : Flat) (node : OpNode) (types : List Handle) → undone (OpAdded (length f.types)) (with_op f node types) ≡ f
+added_back f node types =
+    ap (λ os. record f { ops = os; types = take (length f.types) (f.types ++ types) }) (take_at f.ops (node ∷ []) (length (f.ops ++ node ∷ []) - 1) (omega (arith, length_push f.ops node)))
+    ∙ ap (λ ts. record f { types = ts }) (take_at f.types types (length f.types) refl)

@@ -1,0 +1,6 @@
+pub mod Counted
+pub mod Sites
+pub mod Sources
+pub mod Functions
+pub mod PlainRows
+pub mod Meaning

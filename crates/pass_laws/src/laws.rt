@@ -1,0 +1,19 @@
+//! Laws of passes, each the contract of a function that does nothing.
+
+ghost use Rattle.pipeline_text.specs.declared.pass.PassName.TheVariants.{ArithExpand, ConvertArithToLlvm, ConvertCfToLlvm};
+ghost use Rattle.pass_laws.specs.Promises.{KeepsMeaning};
+
+/// What arith-expand makes of any functions of a verified module keeps the results, the traces and the endless runs.
+pub fn law_expand()
+    ensures { KeepsMeaning ArithExpand }
+{}
+
+/// So does what convert-arith-to-llvm makes of them.
+pub fn law_arith()
+    ensures { KeepsMeaning ConvertArithToLlvm }
+{}
+
+/// So does what convert-cf-to-llvm makes of them, block arguments with the branches to them.
+pub fn law_cf()
+    ensures { KeepsMeaning ConvertCfToLlvm }
+{}

@@ -1,0 +1,6 @@
+//! Laws of passes: what they make of verified modules agrees with these.
+#![tactic(auto)]
+
+mod laws;
+
+pub use laws::{law_arith, law_cf, law_expand};
