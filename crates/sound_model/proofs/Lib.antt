@@ -1,2 +1,3 @@
 pub mod Refining
 pub mod Examples
+pub mod AgreementExamples
