@@ -21,9 +21,10 @@ use Rattle.chosen_laws.proofs.Derivations.{mapped_count}
 use Rattle.chosen_laws.proofs.Lists.{items_count}
 use Rattle.code_laws.specs.PlainCodes.{numbers_in}
 use Rattle.sim_laws.proofs.Local.{Each}
+use Rattle.conversion_laws.specs.PlainRows.{AllOf, PatternPlain}
 use Rattle.conversion_laws.proofs.Names.{Distinct}
-use Rattle.conversion_laws.proofs.Texts.{AllOf, OpBare, OpsBare, RegionsBare, BlocksBare}
-use Rattle.conversion_laws.proofs.Plain.{PatternPlain, chosen_plain, no_copies}
+use Rattle.conversion_laws.proofs.Texts.{OpBare, OpsBare, RegionsBare, BlocksBare}
+use Rattle.conversion_laws.proofs.Plain.{chosen_plain, no_copies}
 use Rattle.conversion_laws.proofs.Trees.{OpIsOk, OpOk, OpsOk, RegionsOk, BlocksOk, ReplacedOk}
 use Rattle.pass_laws.proofs.Counted.{and_left, and_right, values_apart}
 use Rattle.pass_laws.proofs.Sites.{OpFit, OpsFit, RegionsFit, BlocksFit}
