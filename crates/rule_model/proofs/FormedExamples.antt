@@ -135,3 +135,10 @@ module_inside = refl
 
 no_function : is_formed (module_of (makes 0 ∷ [])) ≡ false
 no_function = refl
+
+-- a name is of bytes, so no text has an operation that is named as a copy
+name_beyond_bytes : formed_ops (plain (256 ∷ []) [] [] [] ∷ []) ≡ false
+name_beyond_bytes = refl
+
+name_of_bytes : formed_ops (plain (255 ∷ []) [] [] [] ∷ []) ≡ true
+name_of_bytes = refl

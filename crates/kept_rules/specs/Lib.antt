@@ -1,0 +1,6 @@
+pub mod Lines
+pub mod Typed
+pub mod Fits
+pub mod Kept
+pub mod Promises
+pub mod Casts
