@@ -30,3 +30,10 @@ pub mod GoodValues
 pub mod StraightPass
 pub mod Modules
 pub mod StraightLaws
+pub mod CastScopes
+pub mod SubstitutedScopes
+pub mod SubstitutedRules
+pub mod RemovedScopes
+pub mod RemovedRules
+pub mod CastPairs
+pub mod Reconciles

@@ -1,7 +1,7 @@
 -- What the laws on verified modules promise.
 use Rattle.std.specs.Prelude.{◌≡◌, ◌⊎◌, ℕ, List, [], ◌∷◌, Ok}
 use Rattle.pipeline_text.specs.declared.pass.PassName.{PassName}
-use Rattle.pipeline_text.specs.declared.pass.PassName.TheVariants.{ArithExpand, ConvertArithToLlvm}
+use Rattle.pipeline_text.specs.declared.pass.PassName.TheVariants.{ArithExpand, ConvertArithToLlvm, ReconcileUnrealizedCasts}
 use Rattle.plain_tree.specs.Ops.{Op, PlainModule}
 use Rattle.rule_model.specs.Rules.{Verified}
 use Rattle.conversion_model.specs.Conversion.{Supply}
@@ -31,3 +31,6 @@ ExpandKeepsVerified = PassKeepsVerified ArithExpand
 
 abbrev pub ArithKeepsVerified : Type 0
 ArithKeepsVerified = PassKeepsVerified ConvertArithToLlvm
+
+abbrev pub CastsKeepVerified : Type 0
+CastsKeepVerified = PassKeepsVerified ReconcileUnrealizedCasts

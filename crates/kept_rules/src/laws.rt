@@ -1,9 +1,11 @@
 //! Laws, each the contract of a function that does nothing.
 
-ghost use Rattle.kept_rules.specs.Promises.{ArithKeepsVerified, ExpandKeepsVerified};
+ghost use Rattle.kept_rules.specs.Promises.{ArithKeepsVerified, CastsKeepVerified, ExpandKeepsVerified};
 
-/// A verified module with any of its functions replaced by what arith-expand or convert-arith-to-llvm makes of it is verified.
+/// A verified module with any of its functions replaced by what arith-expand, convert-arith-to-llvm or
+/// reconcile-unrealized-casts makes of it is verified.
 pub fn law_verified()
     ensures expand { ExpandKeepsVerified }
     ensures arith { ArithKeepsVerified }
+    ensures casts { CastsKeepVerified }
 {}
