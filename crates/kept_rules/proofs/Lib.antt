@@ -37,3 +37,4 @@ pub mod RemovedScopes
 pub mod RemovedRules
 pub mod CastPairs
 pub mod Reconciles
+pub mod Folds

@@ -222,7 +222,7 @@ unused_gone f (op k rs os r ls) e = (
 )
 
 -- both, one after another
-then_kept : (c : Functions) (f g h : Op) → Kept c f g → Kept c g h → Kept c f h
+pub then_kept : (c : Functions) (f g h : Op) → Kept c f g → Kept c g h → Kept c f h
 then_kept c f g h a b = record { formed = b.formed; parts = b.parts; declared_same = b.declared_same ∙ a.declared_same }
 
 unused_kept : (c : Functions) (room : ℕ) (f : Op) → is_formed_function f ≡ true → Parts c f → Kept c f (unused_left_out room f)
