@@ -1,21 +1,18 @@
 //! The rows of branches.
 
-ghost use Rattle.std.specs.Prelude.{◌≡◌, List, IfOk, OnOk, Some, [], ◌∷◌, ◌++◌, map, not};
-ghost use Rattle.std.specs.List.{list_all};
+ghost use Rattle.std.specs.Prelude.{◌≡◌, List, IfOk, OnOk, Some, [], ◌∷◌, ◌++◌, not};
 ghost use Rattle.plain_tree.specs.Attrs.{plain_entries};
-ghost use Rattle.plain_tree.specs.Types.{plain_type};
-ghost use Rattle.plain_tree.specs.ValueTypes.{is_own as owned};
 ghost use Rattle.conversion_model.specs.declared.templates.Source.TheVariants.{Operand};
 ghost use Rattle.pattern_model.specs.CfRows.{br_row, cond_br_row, conditional, has_other_type as other_type, is_branch as is_branching, llvm_br_row, llvm_cond_br_row};
 ghost use Rattle.row_code.specs.Shapes.{shape_of, tree_or_none};
 ghost use Rattle.cf_rows.specs.Branches.{branch_to, operands_from};
 
 use conversion_model::{Source, SourceList, StepTree, TemplateTree};
+use conversion_target::{LegalRule, holds};
 use row_code::{ShapeTree, find, kept_props};
 use sqlite_items::Items;
 use std::alloc::{AllocError, Global};
 use tree_model::{DictTree, Name, NoMemory, TypeTree, one};
-use type_table::is_own;
 
 /// Whether an operation is a branch to so many successors.
 fn is_branch(count: u32, shape: &ShapeTree) -> bool
@@ -24,21 +21,10 @@ fn is_branch(count: u32, shape: &ShapeTree) -> bool
     shape.results.len() == 0 && shape.successors == count && shape.regions == 0
 }
 
-fn are_own(types: &[TypeTree]) -> bool
-    ensures { result ≡ list_all owned (map plain_type types.now) }
-{
-    'each: for t in types {
-        if !is_own(t) {
-            return false;
-        }
-    }
-    true
-}
-
 fn has_other_type(shape: &ShapeTree) -> bool
     ensures { result ≡ other_type (shape_of shape.now) }
 {
-    !are_own(shape.operands.as_slice())
+    !holds(&LegalRule::TypesOwn, shape)
 }
 
 fn push_operand(sources: &mut SourceList, place: usize) -> Result<(), NoMemory>

@@ -17,8 +17,9 @@ use Rattle.sound_model.specs.Soundness.{FitIfRoot, IsFit, PatternSound, Patterns
 use Rattle.chosen_laws.proofs.Lists.{none_some, some_same}
 use Rattle.chosen_laws.proofs.Derivations.{length_joined, parts, types_are}
 use Rattle.chosen_laws.proofs.Casts.{changed_joined}
+use Rattle.conversion_laws.specs.PlainRows.{AllOf, MadeOrCast, PatternPlain, RowIsPlain, Uncopied, is_cast, is_made}
 use Rattle.conversion_laws.proofs.Trees.{AllMade, StepsBare}
-use Rattle.conversion_laws.proofs.Texts.{AllOf, order_all}
+use Rattle.conversion_laws.proofs.Texts.{order_all}
 
 -- a template in which each result is made and no step is a copy
 pub record IsPlain (t : Template) : Type 0 where
@@ -34,31 +35,6 @@ IsMade (Operand k) = ⊥
 abbrev Changed : Option PlainType → Type 0
 Changed None = ⊥
 Changed (Some u) = Unit {0}
-
--- a source of a row that is made, or an operand that is cast
-pub data MadeOrCast (change : PlainType → Option PlainType) (types : List PlainType) : Source → Type 0 where
-  is_made : {k : ℕ} → MadeOrCast change types (Made k)
-  is_cast : {k : ℕ} {t u : PlainType} → slice_get types k ≡ Some t → change t ≡ Some u → MadeOrCast change types (Operand k)
-
--- each result is made, or cast, or of an operand that is cast
-abbrev pub Uncopied : (PlainType → Option PlainType) → List PlainType → List PlainType → List Source → Type 0
-Uncopied change types [] ss = Unit {0}
-Uncopied change types (r ∷ rs) [] = Unit {0}
-Uncopied change types (r ∷ rs) (s ∷ ss) = (MadeOrCast change types s ⊎ ((u : PlainType) × (change r ≡ Some u))) × Uncopied change types rs ss
-
--- what a row owes besides: at most one result, no regions, and no result that is a copy
-pub record RowPlain (change : PlainType → Option PlainType) (o : Shape) (t : Template) : Type 0 where
-  pub few : length o.results ≤ 1
-  pub no_regions : o.regions ≡ 0
-  pub uncopied : Uncopied change o.operands o.results t.results
-
-abbrev pub RowIsPlain : List ℕ → (PlainType → Option PlainType) → Row → Type 0
-RowIsPlain root change (Straight row) = (o : Shape) (t : Template) → o.name ≡ root → IsFit o → row o ≡ Some t → RowPlain change o t
-RowIsPlain root change (Cutting row) = Unit {0}
-RowIsPlain root change (Framing row) = Unit {0}
-
-abbrev pub PatternPlain : ℕ → Pattern → Type 0
-PatternPlain bits p = RowIsPlain p.root (change_of bits p.is_converted) (p.row bits)
 
 -- Lists
 

@@ -11,8 +11,9 @@ use Rattle.conversion_model.specs.Chosen.{chosen}
 use Rattle.conversion_model.specs.Items.{op_size, ops_size, blocks_size}
 use Rattle.conversion_model.specs.Uses.{copies_left_out}
 use Rattle.conversion_model.specs.Conversion.{Pass, Supply, Unlegalised, conv, finished, line_by, line_of, op_blocks, ops_blocks, or_fails, regions_of, regions_blocks, blocks_blocks, replacements, with_blocks}
+use Rattle.conversion_laws.specs.PlainRows.{StraightTable}
 use Rattle.conversion_laws.specs.NewTrees.{args_at, front_at, new_blocks, new_function, new_op, new_ops, new_regions, ops_front, source_at}
-use Rattle.conversion_laws.proofs.Texts.{OpBare, OpsBare, RegionsBare, BlocksBare, StraightTable, nothing_left_out, replacements_are}
+use Rattle.conversion_laws.proofs.Texts.{OpBare, OpsBare, RegionsBare, BlocksBare, nothing_left_out, replacements_are}
 use Rattle.conversion_laws.proofs.Trees.{OpIsOk, OpsOk, RegionsOk, BlocksOk, StepsBare, line_cases}
 
 -- The arguments of blocks

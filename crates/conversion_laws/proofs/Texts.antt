@@ -13,22 +13,10 @@ use Rattle.conversion_model.specs.Choice as choices
 use Rattle.conversion_model.specs.Items.{Item, Text, Ways, held_blocks, held_regions, items, op_at, op_items, op_size, ops_size, blocks_size, puts, text_of, whole_items, whole_regions}
 use Rattle.conversion_model.specs.Uses.{copies_in, copies_left_out, followed, is_copy, op_listed, op_uses, op_without, ops_listed, ops_uses, ops_without, regions_listed, regions_uses, regions_without, blocks_listed, blocks_uses, blocks_without, pair_in}
 use Rattle.conversion_model.specs.Conversion.{Pass, Supply, choice_in, function_by, line_of, pieces_of, regions_of, replacements, ways}
+use Rattle.conversion_laws.specs.PlainRows.{AllOf, IsStraightRow, StraightTable}
 use Rattle.conversion_laws.specs.NewTrees.{new_blocks, new_function, new_op, new_ops, new_regions, ops_front, source_at}
 
 -- No cuts and no frames
-
-abbrev pub IsStraightRow : Row → Type 0
-IsStraightRow (Straight row) = Unit {0}
-IsStraightRow (Cutting row) = ⊥
-IsStraightRow (Framing row) = ⊥
-
-abbrev pub AllOf : {A : Type 0} → (A → Type 0) → List A → Type 0
-AllOf Q [] = Unit {0}
-AllOf Q (x ∷ xs) = Q x × AllOf Q xs
-
--- each row of the table is straight
-abbrev pub StraightTable : ℕ → List Pattern → Type 0
-StraightTable bits table = AllOf (λ p. IsStraightRow (p.row bits)) table
 
 put_all : (Q : Ranked → Type 0) (r : Ranked) (rs : List Ranked) → Q r → AllOf Q rs → AllOf Q (put_in r rs)
 put_all Q r [] h all = (h, tt)

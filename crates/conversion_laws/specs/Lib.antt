@@ -1,1 +1,2 @@
 pub mod NewTrees
+pub mod PlainRows

@@ -61,3 +61,8 @@ pub record KeepsMarks (old new : Edited) : Type 0 where
   pub longer : length old.journal ≤ length new.journal
   pub front : take (length old.journal) new.journal ≡ old.journal
   pub marks : (mark : ℕ) → mark ≤ length old.journal → at_mark new.journal new.now mark ≡ at_mark old.journal old.now mark
+
+-- the nodes and the journal are what they were; lists may have more room
+pub record IsBack (old new : Edited) : Type 0 where
+  pub now : new.now ≡ old.now
+  pub journal : new.journal ≡ old.journal

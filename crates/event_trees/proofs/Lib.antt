@@ -1,3 +1,4 @@
+pub mod WrittenLaws
 mod AttrExamples
 mod NumberExamples
 mod LevelExamples

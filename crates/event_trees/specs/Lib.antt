@@ -5,3 +5,4 @@ pub mod Numbers
 pub mod Roles
 pub mod Levels
 pub mod Modules
+pub mod Written

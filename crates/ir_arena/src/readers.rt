@@ -1,12 +1,13 @@
 //! What is read of a function.
 
-ghost use Rattle.std.specs.Prelude.{◌≡◌, ◌<◌, ◌++◌, length, slice_index};
-ghost use Rattle.flat_model.specs.Flat.{AllBelow, op_at, block_at, blocks_at, type_at};
+ghost use Rattle.std.specs.Prelude.{◌≡◌, ◌<◌, ◌++◌, length, slice_index, IfOk};
+ghost use Rattle.flat_model.specs.Flat.{AllBelow, IsClosed, op_at, block_at, blocks_at, type_at};
 
 use crate::func::Func;
+use crate::pushing::next;
 use flat_model::{BlockId, NamedAttr, OpId, RegionId, ValueId};
 use key_model::Handle;
-use tree_model::Name;
+use tree_model::{Name, NoMemory};
 
 #[tactic(auto, using(crate::proofs::ReaderLaws::reader_laws))]
 impl Func {
@@ -128,5 +129,19 @@ impl Func {
         ensures { result ≡ type_at self.now.flat value }
     {
         self.types[value as usize]
+    }
+
+    /// How many values there are.
+    pub fn value_count(&self) -> Result<u32, NoMemory>
+        ensures { IfOk result (λ count. count ≡ length self.now.flat.types) }
+    {
+        next(self.types.len())
+    }
+
+    /// Nothing is done. Contracts learn that each number in the function names something in it.
+    pub fn closed(&self)
+        ensures { IsClosed self.now.flat }
+    {
+        let _root = self.root;
     }
 }

@@ -30,3 +30,11 @@ pub mod GoodValues
 pub mod StraightPass
 pub mod Modules
 pub mod StraightLaws
+pub mod CastScopes
+pub mod SubstitutedScopes
+pub mod SubstitutedRules
+pub mod RemovedScopes
+pub mod RemovedRules
+pub mod CastPairs
+pub mod Reconciles
+pub mod Folds

@@ -38,7 +38,7 @@ steps_old Old v rs os made (p ∷ l) old s h = elim (has_cases v (results_of p) 
 ]
 
 pub near_steps : (Old : ℕ → Type 0) (v : ℕ) (o : Op) (rest tail : Ops) (rs made : List ℕ) (l : List Op) → Steps Old rs (operands_of o) made l → has v made ≡ false
-    → (has v (bound_by l) ≡ false → Near v (more_ops o rest) tail) → Near v (more_ops o rest) (put_ops l tail)
+    → (has v (bound_by l) ≡ false → Near v (FreeOp v) (more_ops o rest) tail) → Near v (FreeOp v) (more_ops o rest) (put_ops l tail)
 near_steps Old v o rest tail rs made [] s none behind = behind refl
 near_steps Old v o rest tail rs made (p ∷ l) s none behind =
     by_test (has v (results_of p)) (λ e. binds_it s.1 e free)
@@ -124,7 +124,7 @@ module _ (Old : ℕ → Type 0) (G : ℕ → Op → List Op → Type 0) (H : ℕ
   stays_free v n k rs os ls old d (inr h) = inr (regions_free v old d h)
 
   -- the new operations follow the old ones
-  pub ops_near : (v : ℕ) {n : ℕ} {os ps : Ops} → Old v → LinedOps G H n os ps → Near v os ps
+  pub ops_near : (v : ℕ) {n : ℕ} {os ps : Ops} → Old v → LinedOps G H n os ps → Near v (FreeOp v) os ps
   ops_near v old lined_end = both_end
   ops_near v old (stays {n = n} {k = k} {rs = rs} {os = os} {ls = ls} {r = r} {s = s} x d) =
       by_test (ends (op k rs os r ls)) (λ e. both refl refl (λ f. clash e f) (stays_free v (n + 1) k rs os ls old x) (ops_near v old d))
@@ -139,23 +139,23 @@ module _ (Old : ℕ → Type 0) (G : ℕ → Op → List Op → Type 0) (H : ℕ
   abbrev block_with : ℕ → Values → Ops → PlainBlock
   block_with l args ops = record { label = l; args = args; ops = ops }
 
-  first_started : (v : ℕ) {n : ℕ} {bs cs : Blocks} → Old v → LinedBlocks G H n bs cs → (c : PlainBlock) → first_block cs ≡ Some c → has v (numbers c.args) ≡ false → Started v (first_block bs) c
+  first_started : (v : ℕ) {n : ℕ} {bs cs : Blocks} → Old v → LinedBlocks G H n bs cs → (c : PlainBlock) → first_block cs ≡ Some c → has v (numbers c.args) ≡ false → Started v (FreeOp v) (first_block bs) c
   first_started v old lined_no_block c e = absurd (none-some c e)
   first_started v old (lined_block {l = l} {args = args} {ops = ops} {qs = qs} d rest) c e =
-      subst (λ (x : PlainBlock). has v (numbers x.args) ≡ false → Started v (Some (block_with l args ops)) x) (some_same (block_with l args qs) c e)
+      subst (λ (x : PlainBlock). has v (numbers x.args) ≡ false → Started v (FreeOp v) (Some (block_with l args ops)) x) (some_same (block_with l args qs) c e)
       (λ f. record { at = block_with l args ops; is = refl; starts = starts_near f (ops_near v old d) })
 
-  each_started : (v : ℕ) {n : ℕ} {bs cs : Blocks} → Old v → LinedBlocks G H n bs cs → (t : ℕ) (c : PlainBlock) → block_of t cs ≡ Some c → has v (numbers c.args) ≡ false → Started v (block_of t bs) c
+  each_started : (v : ℕ) {n : ℕ} {bs cs : Blocks} → Old v → LinedBlocks G H n bs cs → (t : ℕ) (c : PlainBlock) → block_of t cs ≡ Some c → has v (numbers c.args) ≡ false → Started v (FreeOp v) (block_of t bs) c
   each_started v old lined_no_block t c e = absurd (none-some c e)
   each_started v old (lined_block {l = l} {args = args} {ops = ops} {qs = qs} {b = b} {c = c} d rest) t x e = go (l == t) e (each_started v old rest t x)
     where
       go : (y : Bool) → (if y then Some (block_with l args qs) else block_of t c) ≡ Some x
-          → (block_of t c ≡ Some x → has v (numbers x.args) ≡ false → Started v (block_of t b) x) → has v (numbers x.args) ≡ false
-          → Started v (if y then Some (block_with l args ops) else block_of t b) x
+          → (block_of t c ≡ Some x → has v (numbers x.args) ≡ false → Started v (FreeOp v) (block_of t b) x) → has v (numbers x.args) ≡ false
+          → Started v (FreeOp v) (if y then Some (block_with l args ops) else block_of t b) x
       go true k later =
-          subst (λ (z : PlainBlock). has v (numbers z.args) ≡ false → Started v (Some (block_with l args ops)) z) (some_same (block_with l args qs) x k)
+          subst (λ (z : PlainBlock). has v (numbers z.args) ≡ false → Started v (FreeOp v) (Some (block_with l args ops)) z) (some_same (block_with l args qs) x k)
           (λ f. record { at = block_with l args ops; is = refl; starts = starts_near f (ops_near v old d) })
       go false k later = later k
 
-  pub alike : (v : ℕ) {n : ℕ} {bs cs : Blocks} → Old v → LinedBlocks G H n bs cs → Alike bs cs v
+  pub alike : (v : ℕ) {n : ℕ} {bs cs : Blocks} → Old v → LinedBlocks G H n bs cs → Alike bs cs v (FreeOp v)
   alike v old d = record { first = first_started v old d; each = each_started v old d }

@@ -11,7 +11,7 @@ use Rattle.conversion_model.specs.Conversion.{regions_of}
 use Rattle.conversion_model.specs.Fresh.{EachBlock, EachOf, EachOp, EachOps, EachRegion}
 use Rattle.kept_rules.specs.Lines.{bound_by, Line, LinedBlocks, LinedOps, LinedRegions, lined_block, lined_end, lined_no_block, lined_no_region, lined_region, put_ops, stays, Steps, swaps, Turn, turns}
 use Rattle.kept_rules.proofs.Words.{clash, either_when, has_cases, has_left, has_right, or_left, or_right}
-use Rattle.kept_rules.proofs.Follows.{followed, has_none, unused, Alike}
+use Rattle.kept_rules.proofs.Follows.{Alike, followed, free_unreached, has_none, unused}
 use Rattle.kept_rules.proofs.LinedPaths.{alike, blocks_bind, free_operand, regions_free}
 
 -- Free uses of a tree that keeps the rule are defined outside
@@ -61,11 +61,11 @@ pub record Settled (Old : ℕ → Type 0) (cs : Blocks) (outer : ℕ → Type 0)
   pub used : (u l : ℕ) (bound : List ℕ) (p : Op) (ps : Ops) → Old u → FreeOp u p → FreeBlocks u cs → DefinedAt cs outer l bound (more_ops p ps) u
 
 -- where the old region keeps the rule and the new one is followed in it
-pub settled : (Old : ℕ → Type 0) (bs cs : Blocks) (was outer : ℕ → Type 0) → DefinedBlocks bs was bs → ((u : ℕ) → Old u → Alike bs cs u) → ((u : ℕ) → Old u → binds u cs ≡ true → binds u bs ≡ true)
+pub settled : (Old : ℕ → Type 0) (bs cs : Blocks) (was outer : ℕ → Type 0) → DefinedBlocks bs was bs → ((u : ℕ) → Old u → Alike bs cs u (FreeOp u)) → ((u : ℕ) → Old u → binds u cs ≡ true → binds u bs ≡ true)
     → ((u : ℕ) → Old u → binds u cs ≡ false → FreeBlocks u cs → outer u) → Settled Old cs outer
 settled Old bs cs was outer d like own covers = record {
   used = λ u l bound p ps old free inside. either_when (binds u cs) (Reach cs u l bound (more_ops p ps) → ⊥) (outer u)
-      (λ e r. unused was p d (own u old e) (followed (like u old) r) free)
+      (λ e r. unused p (free_unreached bs was u d (own u old e)) (followed (like u old) r) free)
       (λ e. covers u old e inside);
 }
 

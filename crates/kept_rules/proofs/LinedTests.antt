@@ -32,7 +32,7 @@ types_map : (vs : Values) → types vs ≡ map (λ v. v.1) vs
 types_map [] = refl
 types_map (v ∷ vs) = ap (λ ts. v.1 ∷ ts) (types_map vs)
 
-abbrev facts_with : Kind → List PlainType → List PlainType → List Target → List (List Head) → Option Holder → Bool → Facts
+abbrev pub facts_with : Kind → List PlainType → List PlainType → List Target → List (List Head) → Option Holder → Bool → Facts
 facts_with k operands results successors regions holder last =
     record { name = k.name; props = k.props; operands = operands; results = results; successors = successors; regions = regions; holder = holder; last = last }
 

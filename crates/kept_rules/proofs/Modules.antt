@@ -40,13 +40,13 @@ joined_declared : (xs ys : List Op) → map declared (xs ++ ys) ≡ map declared
 joined_declared [] ys = refl
 joined_declared (x ∷ xs) ys = ap (λ l. declared x ∷ l) (joined_declared xs ys)
 
-one_more : (xs ys : List Op) (f g : Op) → map declared xs ≡ map declared ys → declared f ≡ declared g → map declared (xs ++ f ∷ []) ≡ map declared (ys ++ g ∷ [])
+pub one_more : (xs ys : List Op) (f g : Op) → map declared xs ≡ map declared ys → declared f ≡ declared g → map declared (xs ++ f ∷ []) ≡ map declared (ys ++ g ∷ [])
 one_more xs ys f g e d = joined_declared xs (f ∷ []) ∙ ap (λ l. l ++ declared f ∷ []) e ∙ ap (λ x. map declared ys ++ x ∷ []) d ∙ sym (joined_declared ys (g ∷ []))
 
 abbrev functions_of : List Declared → List Declared → Functions
 functions_of all earlier = record { all = all; earlier = earlier }
 
-same_functions : (all others before after : List Op) → map declared others ≡ map declared all → map declared after ≡ map declared before → functions others after ≡ functions all before
+pub same_functions : (all others before after : List Op) → map declared others ≡ map declared all → map declared after ≡ map declared before → functions others after ≡ functions all before
 same_functions all others before after a b = ap (λ x. functions_of x (map declared after)) a ∙ ap (λ x. functions_of (map declared all) x) b
 
 pub replaced_declared : {name : PassName} {bits : ℕ} (all : List Op) {fs gs : List Op} → FunctionKept name bits → Replaced name bits fs gs → (earlier : List Op) → SoundFrom all earlier fs → list_all is_formed_function fs ≡ true → map declared gs ≡ map declared fs

@@ -22,7 +22,7 @@ hit_by : (v n : ℕ) (b : Bool) → (n == v) ≡ b → (if b then 1 else 0) ≤ 
 hit_by v n true e = omega arith
 hit_by v n false e = omega arith
 
-none_counted : (v : ℕ) (ns : List ℕ) → has v ns ≡ false → count_in v ns ≡ 0
+pub none_counted : (v : ℕ) (ns : List ℕ) → has v ns ≡ false → count_in v ns ≡ 0
 none_counted v [] e = refl
 none_counted v (n ∷ ns) e = go (n == v) e (none_counted v ns)
   where
@@ -30,7 +30,7 @@ none_counted v (n ∷ ns) e = go (n == v) e (none_counted v ns)
     go true f rest = absurd (true≢false f)
     go false f rest = omega (arith, rest f)
 
-some_counted : (v : ℕ) (ns : List ℕ) → has v ns ≡ true → 1 ≤ count_in v ns
+pub some_counted : (v : ℕ) (ns : List ℕ) → has v ns ≡ true → 1 ≤ count_in v ns
 some_counted v [] e = absurd (true≢false (sym e))
 some_counted v (n ∷ ns) e = go (n == v) e (some_counted v ns)
   where
@@ -59,7 +59,7 @@ counted_once (n ∷ ns) all = and_true (not (has n ns)) (are_once ns) (go (has n
 
 -- Values of a tree, counted
 
-values_counted : (v : ℕ) (vs : Values) → count_in v (numbers vs) ≡ values_count v vs
+pub values_counted : (v : ℕ) (vs : Values) → count_in v (numbers vs) ≡ values_count v vs
 values_counted v [] = refl
 values_counted v (x ∷ vs) = omega (arith, values_counted v vs)
 

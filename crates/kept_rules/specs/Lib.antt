@@ -3,3 +3,4 @@ pub mod Typed
 pub mod Fits
 pub mod Kept
 pub mod Promises
+pub mod Casts

@@ -1,12 +1,18 @@
 -- What the laws on verified modules promise.
-use Rattle.std.specs.Prelude.{◌≡◌, ◌⊎◌, ℕ, List, [], ◌∷◌, Ok}
+use Rattle.std.specs.Prelude.{◌≡◌, ◌⊎◌, ℕ, ◌+◌, List, [], ◌∷◌, Ok, ⊤}
 use Rattle.pipeline_text.specs.declared.pass.PassName.{PassName}
-use Rattle.pipeline_text.specs.declared.pass.PassName.TheVariants.{ArithExpand, ConvertArithToLlvm}
+use Rattle.pipeline_text.specs.declared.pass.PassName.TheVariants.{ArithExpand, ConvertArithToLlvm, ReconcileUnrealizedCasts}
+use Rattle.pipeline_text.specs.declared.pass.PassUse.{PassUse}
+use Rattle.pipeline_text.specs.declared.pass.Pipeline.{Pipeline}
+use Rattle.pipeline_text.specs.declared.pass.Stage.{Stage}
+use Rattle.pipeline_text.specs.declared.pass.Stage.TheVariants.{Whole, Each}
 use Rattle.plain_tree.specs.Ops.{Op, PlainModule}
+use Rattle.rule_model.specs.Words.{AllOf}
 use Rattle.rule_model.specs.Rules.{Verified}
 use Rattle.conversion_model.specs.Conversion.{Supply}
 use Rattle.conversion_model.specs.Fresh.{Fresh}
 use Rattle.pattern_model.specs.PassTable.{pass_tree}
+use Rattle.pattern_model.specs.Fold.{folded, stage_run, width}
 
 -- the widths that an index may have
 abbrev pub IsWidth : ℕ → Type 0
@@ -31,3 +37,41 @@ ExpandKeepsVerified = PassKeepsVerified ArithExpand
 
 abbrev pub ArithKeepsVerified : Type 0
 ArithKeepsVerified = PassKeepsVerified ConvertArithToLlvm
+
+abbrev pub CastsKeepVerified : Type 0
+CastsKeepVerified = PassKeepsVerified ReconcileUnrealizedCasts
+
+-- Pipelines
+
+-- the passes that are spoken of here
+abbrev pub IsKept : PassName → Type 0
+IsKept ArithExpand = ⊤
+IsKept ConvertArithToLlvm = ⊤
+IsKept ReconcileUnrealizedCasts = ⊤
+IsKept _ = ⊥
+
+abbrev pub KeptStage : Stage → Type 0
+KeptStage (Whole u) = IsKept u.pass
+KeptStage (Each anchor us) = AllOf (λ (u : PassUse). IsKept u.pass) us
+
+-- the new numbers of each pass on a function are fresh for the function that it is run on
+abbrev pub FreshPasses : (ℕ → Supply) → ℕ → ℕ → List PassUse → Op → Type 0
+FreshPasses new bits position [] f = ⊤
+FreshPasses new bits position (u ∷ us) f = Fresh (new position) f × ((g : Op) → pass_tree u.pass bits (new position) f ≡ Ok g → FreshPasses new bits (position + 1) us g)
+
+abbrev pub FreshFunctions : (ℕ → ℕ → Supply) → ℕ → List PassUse → ℕ → List Op → Type 0
+FreshFunctions new bits us k [] = ⊤
+FreshFunctions new bits us k (f ∷ fs) = FreshPasses (new k) bits 0 us f × FreshFunctions new bits us (k + 1) fs
+
+abbrev pub FreshStage : (ℕ → ℕ → Supply) → ℕ → Stage → List Op → Type 0
+FreshStage new bits (Whole u) funcs = FreshFunctions new bits (u ∷ []) 0 funcs
+FreshStage new bits (Each anchor us) funcs = FreshFunctions new bits us 0 funcs
+
+abbrev pub FreshStages : (ℕ → ℕ → ℕ → Supply) → ℕ → ℕ → List Stage → List Op → Type 0
+FreshStages new bits n [] funcs = ⊤
+FreshStages new bits n (s ∷ ss) funcs = FreshStage (new n) bits s funcs × FreshStages new bits (n + 1) ss (stage_run (new n) bits s funcs).funcs
+
+-- the fold of a pipeline of these passes over a verified module is verified, also where it fails
+abbrev pub FoldKeepsVerified : Type 0
+FoldKeepsVerified = (new : ℕ → ℕ → ℕ → Supply) (p : Pipeline) (m : PlainModule) → IsWidth (width p.stages) → AllOf KeptStage p.stages → FreshStages new (width p.stages) 0 p.stages m.funcs → Verified m
+    → Verified (folded new p m).module_behind

@@ -29,11 +29,11 @@ use Rattle.sound_model.specs.Soundness.{RowsSound}
 use Rattle.code_laws.specs.PlainCodes.{body_of, first_region, function_with, plain_function, props_of, regions_codes}
 use Rattle.sim_laws.proofs.Local.{SameEntry, SameRegions, same_entry_end, same_region, same_regions_end}
 use Rattle.sim_laws.proofs.Changed.{FunctionsChanged, changed_function, function_stays}
+use Rattle.conversion_laws.specs.PlainRows.{AllOf, PatternPlain, StraightTable}
 use Rattle.conversion_laws.specs.NewTrees.{new_function, new_regions}
 use Rattle.conversion_laws.proofs.Names.{differ, not_same}
-use Rattle.conversion_laws.proofs.Texts.{AllOf, OpBare, StraightTable}
+use Rattle.conversion_laws.proofs.Texts.{OpBare}
 use Rattle.conversion_laws.proofs.Stages.{conversion_is}
-use Rattle.conversion_laws.proofs.Plain.{PatternPlain}
 use Rattle.conversion_laws.proofs.Trees.{NewOk, OpTyped, RegionsOk, regions_changed, regions_kept}
 use Rattle.pass_laws.proofs.Counted.{and_left, and_right, defines_once, labels_once, op_typed, typed_of, typed_op, typed_same, values_apart, values_distinct}
 use Rattle.pass_laws.proofs.Sites.{op_fit}

@@ -18,9 +18,8 @@ use Rattle.rule_model.specs.Rules.{if_registered}
 use Rattle.rule_model.specs.Types.{index_and_integer, results_fit}
 use Rattle.sound_model.specs.Soundness.{IsFit, facts_with}
 use Rattle.chosen_laws.proofs.Lists.{none_some, some_same}
-use Rattle.conversion_laws.proofs.Texts.{AllOf}
-use Rattle.conversion_laws.proofs.Plain.{PatternPlain, RowPlain, Uncopied, is_cast, is_made}
 use Rattle.pass_laws.proofs.Counted.{and_left, and_right}
+use Rattle.conversion_laws.specs.PlainRows.{AllOf, PatternPlain, RowPlain, Uncopied, is_cast, is_made}
 
 -- where a test holds and what follows it gives a template
 record Holds (b : Bool) (x : Option Template) (t : Template) : Type 0 where

@@ -1,6 +1,6 @@
 -- What is asked of the source of a conversion holds of a function of a verified module.
 use Rattle.std.proofs.Common.{◌≡◌, ℕ, ◌+◌, ◌==◌, ◌≤◌, Bool, true, false, List, [], ◌∷◌, ◌++◌, Some, length, refl, sym, ap, ◌∙◌, subst, arith, true≢false}
-use Rattle.std.specs.Prelude.{codes, bytes_eq, not, ◌||◌, if◌then◌else◌}
+use Rattle.std.specs.Prelude.{nat_lt, codes, bytes_eq, not, ◌||◌, if◌then◌else◌}
 use Rattle.std.specs.List.{list_all}
 use Rattle.std.proofs.lemmas.Slice.Eq.{bytes_eq-Decides}
 use Rattle.plain_tree.specs.Types.{PlainType}
@@ -14,16 +14,17 @@ use Rattle.conversion_model.specs.Conversion.{Pass, Supply}
 use Rattle.conversion_model.specs.Fresh.{EachBlock, EachOf, EachOp, EachOps, EachRegion, EachValue, IsOld, IsOldLabel}
 use Rattle.rule_model.specs.Words.{has, numbers}
 use Rattle.rule_model.specs.Chains.{uses, op_used, ops_used, regions_used, blocks_used, regions_operands}
-use Rattle.rule_model.specs.Formed.{are_formed_blocks, are_formed_ops, are_formed_regions, are_formed_values, is_formed_here, is_formed_op, is_function_name, is_inner_name, is_of_bytes, own_labels}
+use Rattle.rule_model.specs.Formed.{are_formed_blocks, are_formed_ops, are_formed_regions, are_formed_values, is_formed_here, is_formed_op, is_function_name, is_inner_name, own_labels}
 use Rattle.sound_model.specs.Soundness.{RowsSound}
 use Rattle.chosen_laws.proofs.ChosenLaws.{chosen_sound}
 use Rattle.chosen_laws.proofs.Derivations.{mapped_count}
 use Rattle.chosen_laws.proofs.Lists.{items_count}
 use Rattle.code_laws.specs.PlainCodes.{numbers_in}
 use Rattle.sim_laws.proofs.Local.{Each}
+use Rattle.conversion_laws.specs.PlainRows.{AllOf, PatternPlain}
 use Rattle.conversion_laws.proofs.Names.{Distinct}
-use Rattle.conversion_laws.proofs.Texts.{AllOf, OpBare, OpsBare, RegionsBare, BlocksBare}
-use Rattle.conversion_laws.proofs.Plain.{PatternPlain, chosen_plain, no_copies}
+use Rattle.conversion_laws.proofs.Texts.{OpBare, OpsBare, RegionsBare, BlocksBare}
+use Rattle.conversion_laws.proofs.Plain.{chosen_plain, no_copies}
 use Rattle.conversion_laws.proofs.Trees.{OpIsOk, OpOk, OpsOk, RegionsOk, BlocksOk, ReplacedOk}
 use Rattle.pass_laws.proofs.Counted.{and_left, and_right, values_apart}
 use Rattle.pass_laws.proofs.Sites.{OpFit, OpsFit, RegionsFit, BlocksFit}
@@ -64,14 +65,14 @@ has_right n (x ∷ xs) ys h = go (x == n) (has_right n xs ys h)
 
 -- names
 
-copy_not_bytes : is_of_bytes copy_name ≡ false
+copy_not_bytes : list_all (λ b. nat_lt b 256) copy_name ≡ false
 copy_not_bytes = refl
 
-bare_name : (name : List ℕ) → is_of_bytes name ≡ true → bytes_eq name copy_name ≡ false
+bare_name : (name : List ℕ) → list_all (λ b. nat_lt b 256) name ≡ true → bytes_eq name copy_name ≡ false
 bare_name name bytes = go (bytes_eq name copy_name) refl
   where
     go : (b : Bool) → bytes_eq name copy_name ≡ b → b ≡ false
-    go true is = absurd (true≢false (sym bytes ∙ ap is_of_bytes ((bytes_eq-Decides name copy_name).0 is)))
+    go true is = absurd (true≢false (sym bytes ∙ ap (list_all (λ b. nat_lt b 256)) ((bytes_eq-Decides name copy_name).0 is)))
     go false is = refl
 
 -- Formed trees
@@ -81,7 +82,7 @@ mutual
   op_formed defined labels (op k rs os regions ls) formed =
       let inner = and_left (is_inner_name k.name) _ formed in
       let rest = and_right (is_inner_name k.name) _ formed in
-      (bare_name k.name (and_right (not (is_function_name k.name || bytes_eq k.name (codes "builtin.module"))) (is_of_bytes k.name) inner), regions_formed defined regions (and_right (is_formed_here defined labels k rs os ls) _ rest))
+      (bare_name k.name (and_left (list_all (λ b. nat_lt b 256) k.name) _ inner), regions_formed defined regions (and_right (is_formed_here defined labels k rs os ls) _ rest))
 
   ops_formed : (defined labels : List ℕ) (os : Ops) → are_formed_ops defined labels os ≡ true → OpsBare os
   ops_formed defined labels end_of_ops formed = tt

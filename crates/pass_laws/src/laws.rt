@@ -1,7 +1,13 @@
 //! Laws of passes, each the contract of a function that does nothing.
 
 ghost use Rattle.pipeline_text.specs.declared.pass.PassName.TheVariants.{ArithExpand, ConvertArithToLlvm, ConvertCfToLlvm};
-ghost use Rattle.pass_laws.specs.Promises.{KeepsMeaning};
+ghost use Rattle.pass_laws.specs.Promises.{ConversionsKeep, KeepsMeaning};
+
+/// By any table of sound straight rows that leave no copy, any functions of a verified module may be converted: the module keeps
+/// its results, its traces and its endless runs.
+pub fn law_conversion()
+    ensures { ConversionsKeep }
+{}
 
 /// What arith-expand makes of any functions of a verified module keeps the results, the traces and the endless runs.
 pub fn law_expand()

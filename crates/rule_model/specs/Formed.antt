@@ -122,13 +122,9 @@ are_formed_values vs = list_all (λ v. is_formed_type v.1) vs
 abbrev pub is_function_name : List ℕ → Bool
 is_function_name name = bytes_eq name (codes "func.func") || bytes_eq name (codes "llvm.func")
 
--- a name is made of bytes
-abbrev pub is_of_bytes : List ℕ → Bool
-is_of_bytes name = list_all (λ b. nat_lt b 256) name
-
--- what may stand within a function
+-- what may stand within a function: a name is of bytes
 abbrev pub is_inner_name : List ℕ → Bool
-is_inner_name name = not (is_function_name name || bytes_eq name (codes "builtin.module")) && is_of_bytes name
+is_inner_name name = list_all (λ b. nat_lt b 256) name && not (is_function_name name || bytes_eq name (codes "builtin.module"))
 
 -- the operands are defined, the successors are labels of the region, types and attributes are formed
 abbrev pub is_formed_here : (defined labels : List ℕ) → Kind → Values → (operands successors : List ℕ) → Bool

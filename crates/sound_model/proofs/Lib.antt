@@ -1,2 +1,4 @@
 pub mod Refining
+pub mod Agreeing
 pub mod Examples
+pub mod AgreementExamples

@@ -26,3 +26,11 @@ AgreeFunctions fs gs =
 -- two modules agree where an index has so many bits: by the meaning S of both
 abbrev pub AgreesS : ℕ → PlainModule → PlainModule → Type 0
 AgreesS bits a b = AgreeFunctions (functions_of bits (module_tree a)) (functions_of bits (module_tree b))
+
+-- a module agrees with itself
+abbrev pub AgreesWithItself : Type 0
+AgreesWithItself = (bits : ℕ) (m : PlainModule) → AgreesS bits m m
+
+-- agreements go on from one module to the next
+abbrev pub AgreementsJoin : Type 0
+AgreementsJoin = (bits : ℕ) (a b c : PlainModule) → AgreesS bits a b → AgreesS bits b c → AgreesS bits a c

@@ -1,1 +1,2 @@
+pub mod SeenSome
 pub mod ReadingLaws

@@ -1,9 +1,7 @@
 -- What holds of every text.
-use Rattle.std.specs.Prelude.{◌≡◌, ◌⊎◌, ℕ, Bool, List, Option}
+use Rattle.std.specs.Prelude.{◌≡◌, ◌⊎◌, ℕ, Bool, List}
 use Rattle.tree_model.specs.declared.op_tree.ModuleTree.{ModuleTree}
 use Rattle.text_kinds.specs.declared.found.Kind.{Kind}
-use Rattle.text_kinds.specs.declared.found.Found.{Found}
-use Rattle.text_refusals.specs.Refusing.{Refuses}
 use Rattle.tree_reading.specs.Reading.{Reads, ReadsNot}
 
 -- a text reads as one module
@@ -22,7 +20,6 @@ NeverBoth = (text : List ℕ) (allowed : Bool) (A : ModuleTree) (place : ℕ) (k
 abbrev pub OneRefusal : Type 0
 OneRefusal = (text : List ℕ) (allowed : Bool) (place other : ℕ) (kind sort : Kind) → ReadsNot text allowed place kind → ReadsNot text allowed other sort → (place ≡ other) × (kind ≡ sort)
 
--- a text of which something is told, that it is refused so or by nothing, reads as a module or is refused
+-- each text reads as a module or is refused
 abbrev pub OneOfTheTwo : Type 0
-OneOfTheTwo = (text : List ℕ) (allowed : Bool) (found : Option Found) → Refuses text allowed found
-    → ((A : ModuleTree) × Reads text allowed A) ⊎ ((place : ℕ) × (kind : Kind) × ReadsNot text allowed place kind)
+OneOfTheTwo = (text : List ℕ) (allowed : Bool) → ((A : ModuleTree) × Reads text allowed A) ⊎ ((place : ℕ) × (kind : Kind) × ReadsNot text allowed place kind)

@@ -18,7 +18,7 @@ pub fn law_one_refusal()
     ensures { OneRefusal }
 {}
 
-/// A text of which it is told that it is refused so or by nothing reads as a module or is refused.
+/// Each text reads as a module or is refused.
 pub fn law_one_of_the_two()
     ensures { OneOfTheTwo }
 {}

@@ -1,0 +1,11 @@
+//! Tests of what no contract says: that the arena takes trees, and gives them back.
+#![tactic(auto)]
+
+#[cfg(test)]
+mod fixtures;
+#[cfg(test)]
+mod modules;
+#[cfg(test)]
+mod round_trips;
+#[cfg(test)]
+mod unnumbered;

@@ -1,0 +1,5 @@
+//! Texts that are read and printed, and texts that are refused.
+#![tactic(auto)]
+
+#[cfg(test)]
+mod tests;

@@ -1,0 +1,38 @@
+//! The last step taken back.
+
+ghost use Rattle.std.specs.Prelude.{◌≡◌, ℕ, ◌+◌, ◌-◌, ◌<◌, length, take, drop, if◌then◌else◌};
+ghost use Rattle.edit_model.specs.Journal.{at_mark, edits};
+
+use crate::rewriter::Rewriter;
+use edit_model::Step;
+
+impl Rewriter {
+    /// Takes the last step back, and says whether an edit began with it.
+    pub(crate) fn undo_last(&mut self) -> bool
+        requires { 0 < length self.old.journal }
+        ensures journal { self.new.journal ≡ take (length self.old.journal - 1) self.old.journal }
+        ensures marks { (mark : ℕ) → mark < length self.old.journal → at_mark self.new.journal self.new.now mark ≡ at_mark self.old.journal self.old.now mark }
+        ensures edits { (mark : ℕ) → mark < length self.old.journal → edits (drop mark self.old.journal) ≡ edits (drop mark self.new.journal) + (if result then 1 else 0) }
+    {
+        match self.journal.pop() {
+            None => false,
+            Some(Step::Begin) => true,
+            Some(Step::OpAdded(values)) => {
+                self.func.drop_op(values as usize);
+                false
+            }
+            Some(Step::OpListed(block, at)) => {
+                self.func.unlist_op(block, at as usize);
+                false
+            }
+            Some(Step::OpUnlisted(block, at, op)) => {
+                self.func.relist_op(block, at as usize, op);
+                false
+            }
+            Some(Step::OperandSet(op, at, value)) => {
+                self.func.set_operand(op, at as usize, value);
+                false
+            }
+        }
+    }
+}
