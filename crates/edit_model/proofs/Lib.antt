@@ -1,3 +1,4 @@
 pub mod JournalLaws
 pub mod StepLaws
 pub mod ClosedLaws
+pub mod EffectLaws

@@ -1,2 +1,4 @@
 pub mod Writes
 pub mod Journal
+pub mod HandleTree
+pub mod Effects

@@ -48,7 +48,7 @@ use Rattle.guarded_row_laws.specs.Promises.{HoldsWhere, HasSizes, has_sizes, Dim
 use Rattle.guarded_row_laws.proofs.Picks.{pick, pick_at, pick_before, part_among}
 
 module _ (bits : ℕ) (h : width bits ≡ Some bits) where
-  number_width : (ts : List PlainType) → width_in bits 0 (Int bits ∷ ts) ≡ Some bits
+  pub number_width : (ts : List PlainType) → width_in bits 0 (Int bits ∷ ts) ≡ Some bits
   number_width ts = ap (width_at bits) (outs-Int bits) ∙ h
 
   equal_form : (ts us : List PlainType) → form_at bits (codes "llvm.icmp") (predicate 0) (Int bits ∷ ts) us ≡ Computes (Compares Equal bits)
@@ -59,7 +59,7 @@ module _ (bits : ℕ) (h : width bits ≡ Some bits) where
   select_form : (ts us : List PlainType) → form_at bits (codes "llvm.select") [] ts us ≡ Computes Selects
   select_form ts us = form_by (codes "llvm.select") (computes Selects) refl _
 
-  number_form : (j : ℕ) → form_at bits (codes "llvm.mlir.constant") (constant_value (Int bits) (pos j)) [] (Int bits ∷ []) ≡ Computes (Known (Integer (wrapped bits (pos j))))
+  pub number_form : (j : ℕ) → form_at bits (codes "llvm.mlir.constant") (constant_value (Int bits) (pos j)) [] (Int bits ∷ []) ≡ Computes (Known (Integer (wrapped bits (pos j))))
   number_form j = constant_form bits (codes "llvm.mlir.constant") refl (Int bits) refl (pos j) [] ∙ ap (known (Some (pos j))) (number_width [])
 
   -- whether the index is a number below 2 to the width
@@ -126,7 +126,7 @@ if_less : (b : Bool) (a : Answer (List Value)) (ys : List Value) → undefined_i
 if_less true a ys e = (refl, e)
 if_less false a ys e = absurd (undefined_gives e)
 
-below : (m n : ℕ) → nat_lt m n ≡ true → m < n
+pub below : (m n : ℕ) → nat_lt m n ≡ true → m < n
 below m n h = grind arith
 
 size_given : (bits rank : ℕ) (m x : Value) (ys : List Value) → gives (TakesSize bits rank) (m ∷ x ∷ []) ≡ Gives ys → SizeAt bits rank m x ys

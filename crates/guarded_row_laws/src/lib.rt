@@ -5,4 +5,4 @@
 
 mod laws;
 
-pub use laws::law_dim_row;
+pub use laws::{law_alloc_row, law_dim_row};

@@ -38,3 +38,5 @@ pub mod RemovedRules
 pub mod CastPairs
 pub mod Reconciles
 pub mod Folds
+pub mod BranchTemplates
+pub mod BranchLines

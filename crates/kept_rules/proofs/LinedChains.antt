@@ -47,7 +47,7 @@ each_result P (v ∷ vs) all = (all.0, each_result P vs all.1)
 pub each_results : (P Q : ℕ → Type 0) (o : Op) → EachOp P Q o → AllOf P (results_of o)
 each_results P Q (op k rs os r ls) all = each_result P rs all.0
 
-module _ (f : Op) (Old OldLabel : ℕ → Type 0) (value : ℕ → ℕ → ℕ) (at : ℕ → List ℕ) (G : ℕ → Op → List Op → Type 0) (H : ℕ → Op → List Op → Op → Type 0)
+module _ (f : Op) (Old OldLabel : ℕ → Type 0) (value : ℕ → ℕ → ℕ) (at : ℕ → List ℕ) (K : ℕ → Op → Type 0) (G : ℕ → Op → List Op → Type 0) (H : ℕ → Op → List Op → Op → Type 0)
     (line : (n : ℕ) (o : Op) (l : List Op) → G n o l → LineRanks (value n) o l) (line_at : (n : ℕ) (o : Op) (l : List Op) → G n o l → at n ≡ operands_of o)
     (turn : (n : ℕ) (o : Op) (l : List Op) (t : Op) → H n o l t → TurnRanks (value n) o l t) (turn_at : (n : ℕ) (o : Op) (l : List Op) (t : Op) → H n o l t → at n ≡ operands_of o) where
   -- an operand in the new tree: an old one that was one, or a new one where all operands of the operation were
@@ -81,9 +81,9 @@ module _ (f : Op) (Old OldLabel : ℕ → Type 0) (value : ℕ → ℕ → ℕ) 
   front o rest x h = has_left x (op_operands o) (ops_operands rest) (operand_in x o h)
 
   mutual
-    ops_opnds : {n : ℕ} {os ps : Ops} (u : ℕ) → LinedOps G H n os ps → EachOps Old OldLabel os → has u (ops_operands ps) ≡ true → Opnd (ops_operands os) u
+    ops_opnds : {n : ℕ} {os ps : Ops} (u : ℕ) → LinedOps K G H n os ps → EachOps Old OldLabel os → has u (ops_operands ps) ≡ true → Opnd (ops_operands os) u
     ops_opnds u lined_end each h = absurd (true≢false (sym h))
-    ops_opnds u (stays {k = k} {rs = rs} {os = os} {ls = ls} {r = r} {s = s} {rest = rest} {more = more} x y) each h =
+    ops_opnds u (stays {k = k} {rs = rs} {os = os} {ls = ls} {r = r} {s = s} {rest = rest} {more = more} _ x y) each h =
         elim (has_cases u (os ++ regions_operands s) (ops_operands more) h) [
           | inl e ↦ elim (has_cases u os (regions_operands s) e) [
             | inl a ↦ old_opnd (has_of Old u os (each_all Old os each.0.1) a) (has_left u (os ++ regions_operands r) (ops_operands rest) (has_left u os (regions_operands r) a))
@@ -107,14 +107,14 @@ module _ (f : Op) (Old OldLabel : ℕ → Type 0) (value : ℕ → ℕ → ℕ) 
           ]
         ]
 
-    regions_opnds : {n : ℕ} {rs ss : Regions} (u : ℕ) → LinedRegions G H n rs ss → EachRegion Old OldLabel rs → has u (regions_operands ss) ≡ true → Opnd (regions_operands rs) u
+    regions_opnds : {n : ℕ} {rs ss : Regions} (u : ℕ) → LinedRegions K G H n rs ss → EachRegion Old OldLabel rs → has u (regions_operands ss) ≡ true → Opnd (regions_operands rs) u
     regions_opnds u lined_no_region each h = absurd (true≢false (sym h))
     regions_opnds u (lined_region {b = b} {c = c} {r = r} {s = s} x y) each h = elim (has_cases u (blocks_operands c) (regions_operands s) h) [
       | inl e ↦ widen (blocks_operands b) (blocks_operands b ++ regions_operands r) u (λ z k. has_left z (blocks_operands b) (regions_operands r) k) (blocks_opnds u x each.0 e)
       | inr e ↦ widen (regions_operands r) (blocks_operands b ++ regions_operands r) u (λ z k. has_right z (blocks_operands b) (regions_operands r) k) (regions_opnds u y each.1 e)
     ]
 
-    blocks_opnds : {n : ℕ} {bs cs : Blocks} (u : ℕ) → LinedBlocks G H n bs cs → EachBlock Old OldLabel bs → has u (blocks_operands cs) ≡ true → Opnd (blocks_operands bs) u
+    blocks_opnds : {n : ℕ} {bs cs : Blocks} (u : ℕ) → LinedBlocks K G H n bs cs → EachBlock Old OldLabel bs → has u (blocks_operands cs) ≡ true → Opnd (blocks_operands bs) u
     blocks_opnds u lined_no_block each h = absurd (true≢false (sym h))
     blocks_opnds u (lined_block {ops = ops} {qs = qs} {b = b} {c = c} x y) each h = elim (has_cases u (ops_operands qs) (blocks_operands c) h) [
       | inl e ↦ widen (ops_operands ops) (ops_operands ops ++ blocks_operands b) u (λ z k. has_left z (ops_operands ops) (blocks_operands b) k) (ops_opnds u x each.2 e)
@@ -152,7 +152,7 @@ module _ (f : Op) (Old OldLabel : ℕ → Type 0) (value : ℕ → ℕ → ℕ) 
     | inr e ↦ line_edges n (k + length (results_of p)) v u o rs l tail is old olds into own r.3 e
   ]
 
-  op_edges : {n : ℕ} (v u : ℕ) (k : Kind) (rs : Values) (os ls : List ℕ) {r s : Regions} → LinedRegions G H n r s → EachOp Old OldLabel (op k rs os r ls) → Into (λ w. op_used w (op k rs os r ls))
+  op_edges : {n : ℕ} (v u : ℕ) (k : Kind) (rs : Values) (os ls : List ℕ) {r s : Regions} → LinedRegions K G H n r s → EachOp Old OldLabel (op k rs os r ls) → Into (λ w. op_used w (op k rs os r ls))
       → (Into (λ w. regions_used w r) → has u (regions_used v s) ≡ true → Way v u) → has u (op_used v (op k rs os s ls)) ≡ true → Way v u
   op_edges v u k rs os ls {r = r} {s = s} x each into inner h =
       elim (has_cases u (if has v (numbers rs) then os ++ regions_operands s else []) (regions_used v s) h) [
@@ -170,9 +170,9 @@ module _ (f : Op) (Old OldLabel : ℕ → Type 0) (value : ℕ → ℕ → ℕ) 
       within w z e b = has_left z (if has w (numbers rs) then os ++ regions_operands r else []) (regions_used w r) (has_if z (has w (numbers rs)) (os ++ regions_operands r) e b)
 
   mutual
-    ops_edges : {n : ℕ} {os ps : Ops} (v u : ℕ) → LinedOps G H n os ps → EachOps Old OldLabel os → Into (λ w. ops_used w os) → has u (ops_used v ps) ≡ true → Way v u
+    ops_edges : {n : ℕ} {os ps : Ops} (v u : ℕ) → LinedOps K G H n os ps → EachOps Old OldLabel os → Into (λ w. ops_used w os) → has u (ops_used v ps) ≡ true → Way v u
     ops_edges v u lined_end each into h = absurd (true≢false (sym h))
-    ops_edges v u (stays {k = k} {rs = rs} {os = os} {ls = ls} {r = r} {s = s} {rest = rest} {more = more} x y) each into h =
+    ops_edges v u (stays {k = k} {rs = rs} {os = os} {ls = ls} {r = r} {s = s} {rest = rest} {more = more} _ x y) each into h =
         elim (has_cases u (op_used v (op k rs os s ls)) (ops_used v more) h) [
           | inl e ↦ op_edges v u k rs os ls x each.0 (λ w z a. into w z (has_left z (op_used w (op k rs os r ls)) (ops_used w rest) a)) (regions_edges v u x each.0.2) e
           | inr e ↦ ops_edges v u y each.1 (λ w z a. into w z (has_right z (op_used w (op k rs os r ls)) (ops_used w rest) a)) e
@@ -193,21 +193,21 @@ module _ (f : Op) (Old OldLabel : ℕ → Type 0) (value : ℕ → ℕ → ℕ) 
           ]
         ]
 
-    regions_edges : {n : ℕ} {rs ss : Regions} (v u : ℕ) → LinedRegions G H n rs ss → EachRegion Old OldLabel rs → Into (λ w. regions_used w rs) → has u (regions_used v ss) ≡ true → Way v u
+    regions_edges : {n : ℕ} {rs ss : Regions} (v u : ℕ) → LinedRegions K G H n rs ss → EachRegion Old OldLabel rs → Into (λ w. regions_used w rs) → has u (regions_used v ss) ≡ true → Way v u
     regions_edges v u lined_no_region each into h = absurd (true≢false (sym h))
     regions_edges v u (lined_region {b = b} {c = c} {r = r} {s = s} x y) each into h = elim (has_cases u (blocks_used v c) (regions_used v s) h) [
       | inl e ↦ blocks_edges v u x each.0 (λ w z a. into w z (has_left z (blocks_used w b) (regions_used w r) a)) e
       | inr e ↦ regions_edges v u y each.1 (λ w z a. into w z (has_right z (blocks_used w b) (regions_used w r) a)) e
     ]
 
-    blocks_edges : {n : ℕ} {bs cs : Blocks} (v u : ℕ) → LinedBlocks G H n bs cs → EachBlock Old OldLabel bs → Into (λ w. blocks_used w bs) → has u (blocks_used v cs) ≡ true → Way v u
+    blocks_edges : {n : ℕ} {bs cs : Blocks} (v u : ℕ) → LinedBlocks K G H n bs cs → EachBlock Old OldLabel bs → Into (λ w. blocks_used w bs) → has u (blocks_used v cs) ≡ true → Way v u
     blocks_edges v u lined_no_block each into h = absurd (true≢false (sym h))
     blocks_edges v u (lined_block {ops = ops} {qs = qs} {b = b} {c = c} x y) each into h = elim (has_cases u (ops_used v qs) (blocks_used v c) h) [
       | inl e ↦ ops_edges v u x each.2 (λ w z a. into w z (has_left z (ops_used w ops) (blocks_used w b) a)) e
       | inr e ↦ blocks_edges v u y each.3 (λ w z a. into w z (has_right z (ops_used w ops) (blocks_used w b) a)) e
     ]
 
-  edges : {n : ℕ} (k : Kind) (rs : Values) (os ls : List ℕ) {r s : Regions} → f ≡ op k rs os r ls → LinedRegions G H n r s → EachOp Old OldLabel (op k rs os r ls) → (v u : ℕ) → has u (op_used v (op k rs os s ls)) ≡ true → Way v u
+  edges : {n : ℕ} (k : Kind) (rs : Values) (os ls : List ℕ) {r s : Regions} → f ≡ op k rs os r ls → LinedRegions K G H n r s → EachOp Old OldLabel (op k rs os r ls) → (v u : ℕ) → has u (op_used v (op k rs os s ls)) ≡ true → Way v u
   edges k rs os ls is x each v u h =
       op_edges v u k rs os ls x each (λ w z e. ap (λ o. has z (op_used w o)) is ∙ e) (regions_edges v u x each.2) h
 
@@ -216,6 +216,6 @@ module _ (f : Op) (Old OldLabel : ℕ → Type 0) (value : ℕ → ℕ → ℕ) 
   path_of {v = v} each (by_way_of u h c) = then_on u (each v u h) (path_of each c)
 
   -- a function in whose regions operations are replaced keeps rule `OwnUse`
-  pub lined_own : {n : ℕ} (k : Kind) (rs : Values) (os ls : List ℕ) {r s : Regions} → f ≡ op k rs os r ls → LinedRegions G H n r s → EachOp Old OldLabel (op k rs os r ls)
+  pub lined_own : {n : ℕ} (k : Kind) (rs : Values) (os ls : List ℕ) {r s : Regions} → f ≡ op k rs os r ls → LinedRegions K G H n r s → EachOp Old OldLabel (op k rs os r ls)
       → ((v n k : ℕ) → Old v → v ≡ value n k → ⊥) → ((n k m j : ℕ) → value n k ≡ value m j → (n ≡ m) × (k ≡ j)) → ((w : ℕ) → Chain f w w → ⊥) → (v : ℕ) → Chain (op k rs os s ls) v v → ⊥
   lined_own k rs os ls is x each apart unique never v c = no_cycle f Old value at apart unique v never (path_of (edges k rs os ls is x each) c)

@@ -86,36 +86,36 @@ formed_steps Old rs os made (p ∷ l) tail defined labels more s formed none all
     here : (x : ℕ) → has x (results_of p) ≡ true → has x defined ≡ true
     here x a = let v = result_value x p a in inside x v.0 (own_value x v.0 p (ops_values (put_ops l tail) more) v.1)
 
-module _ (Old : ℕ → Type 0) (G : ℕ → Op → List Op → Type 0) (H : ℕ → Op → List Op → Op → Type 0)
+module _ (Old : ℕ → Type 0) (K : ℕ → Op → Type 0) (G : ℕ → Op → List Op → Type 0) (H : ℕ → Op → List Op → Op → Type 0)
     (line : (n : ℕ) (o : Op) (l : List Op) → G n o l → Line Old o l) (turn : (n : ℕ) (o : Op) (l : List Op) (t : Op) → H n o l t → Turn Old o l t)
     (line_keeps : (n : ℕ) (o : Op) (l : List Op) → G n o l → LineKeeps o l) (turn_keeps : (n : ℕ) (o : Op) (l : List Op) (t : Op) → H n o l t → TurnKeeps o l t) where
   mutual
-    ops_labels_kept : {n : ℕ} {os ps : Ops} → LinedOps G H n os ps → ops_labels ps ≡ ops_labels os
+    ops_labels_kept : {n : ℕ} {os ps : Ops} → LinedOps K G H n os ps → ops_labels ps ≡ ops_labels os
     ops_labels_kept lined_end = refl
-    ops_labels_kept (stays {r = r} {s = s} {rest = rest} {more = more} y d) = ap (λ ls. ls ++ ops_labels more) (regions_labels_kept y) ∙ ap (λ ls. regions_labels r ++ ls) (ops_labels_kept d)
+    ops_labels_kept (stays {r = r} {s = s} {rest = rest} {more = more} _ y d) = ap (λ ls. ls ++ ops_labels more) (regions_labels_kept y) ∙ ap (λ ls. regions_labels r ++ ls) (ops_labels_kept d)
     ops_labels_kept (swaps {n = n} {o = o} l {rest = rest} {more = more} g d) =
         put_labels l more (steps_bare Old (results_of o) (operands_of o) [] l (line n o l g).steps) ∙ ops_labels_kept d ∙ ap (λ ls. ls ++ ops_labels rest) (sym (bare_labels o (line_keeps n o l g).bare))
     ops_labels_kept (turns {n = n} {o = o} l t {rest = rest} {more = more} h d) =
         put_labels l (more_ops t more) (steps_bare Old [] (operands_of o) [] l (turn n o l t h).steps) ∙ ap (λ ls. ls ++ ops_labels more) (bare_labels t (turn n o l t h).bare)
         ∙ ops_labels_kept d ∙ ap (λ ls. ls ++ ops_labels rest) (sym (bare_labels o (turn_keeps n o l t h).bare))
 
-    pub regions_labels_kept : {n : ℕ} {rs ss : Regions} → LinedRegions G H n rs ss → regions_labels ss ≡ regions_labels rs
+    pub regions_labels_kept : {n : ℕ} {rs ss : Regions} → LinedRegions K G H n rs ss → regions_labels ss ≡ regions_labels rs
     regions_labels_kept lined_no_region = refl
     regions_labels_kept (lined_region {b = b} {s = s} y d) = ap (λ ls. ls ++ regions_labels s) (blocks_labels_kept y) ∙ ap (λ ls. blocks_labels b ++ ls) (regions_labels_kept d)
 
-    blocks_labels_kept : {n : ℕ} {bs cs : Blocks} → LinedBlocks G H n bs cs → blocks_labels cs ≡ blocks_labels bs
+    blocks_labels_kept : {n : ℕ} {bs cs : Blocks} → LinedBlocks K G H n bs cs → blocks_labels cs ≡ blocks_labels bs
     blocks_labels_kept lined_no_block = refl
     blocks_labels_kept (lined_block {l = l} {ops = ops} {c = c} y d) = ap (λ ls. l ∷ (ls ++ blocks_labels c)) (ops_labels_kept y) ∙ ap (λ ls. l ∷ (ops_labels ops ++ ls)) (blocks_labels_kept d)
 
-  own_labels_kept : {n : ℕ} {bs cs : Blocks} → LinedBlocks G H n bs cs → own_labels cs ≡ own_labels bs
+  own_labels_kept : {n : ℕ} {bs cs : Blocks} → LinedBlocks K G H n bs cs → own_labels cs ≡ own_labels bs
   own_labels_kept lined_no_block = refl
   own_labels_kept (lined_block {l = l} y d) = ap (λ ls. l ∷ ls) (own_labels_kept d)
 
   mutual
-    ops_formed : {n : ℕ} {os ps : Ops} (was defined labels : List ℕ) (more : Values) → LinedOps G H n os ps → ((x : ℕ) → has x was ≡ true → has x defined ≡ true)
+    ops_formed : {n : ℕ} {os ps : Ops} (was defined labels : List ℕ) (more : Values) → LinedOps K G H n os ps → ((x : ℕ) → has x was ≡ true → has x defined ≡ true)
         → ((x : ℕ) (t : PlainType) → HasValue x t (ops_values ps more) → has x defined ≡ true) → are_formed_ops was labels os ≡ true → are_formed_ops defined labels ps ≡ true
     ops_formed was defined labels more lined_end kept inside e = refl
-    ops_formed was defined labels more (stays {k = k} {rs = rs} {os = os} {ls = ls} {r = r} {s = s} {rest = rest} {more = after} y d) kept inside e =
+    ops_formed was defined labels more (stays {k = k} {rs = rs} {os = os} {ls = ls} {r = r} {s = s} {rest = rest} {more = after} _ y d) kept inside e =
         let here : is_formed_op was labels (op k rs os r ls) ≡ true = and_first (is_formed_op was labels (op k rs os r ls)) _ e in
         let parts = and_second (is_inner_name k.name) _ here in
         let own = and_first (is_formed_here was labels k rs os ls) _ parts in
@@ -143,7 +143,7 @@ module _ (Old : ℕ → Type 0) (G : ℕ → Op → List Op → Type 0) (H : ℕ
         (ap (λ ls. list_all (λ m. has m labels) ls) (turn n o l t h).successors ∙ successors_known was labels o (and_first (is_formed_op was labels o) _ e)))
         (ops_formed was defined labels more d kept (λ x u a. inside x u (tail_value x u l (more_ops t after) more (behind_op x u t (ops_values after more) a))) (and_second (is_formed_op was labels o) _ e)))
 
-    pub regions_formed : {n : ℕ} {rs ss : Regions} (was defined : List ℕ) (more : Values) → LinedRegions G H n rs ss → ((x : ℕ) → has x was ≡ true → has x defined ≡ true)
+    pub regions_formed : {n : ℕ} {rs ss : Regions} (was defined : List ℕ) (more : Values) → LinedRegions K G H n rs ss → ((x : ℕ) → has x was ≡ true → has x defined ≡ true)
         → ((x : ℕ) (t : PlainType) → HasValue x t (regions_values ss more) → has x defined ≡ true) → are_formed_regions was rs ≡ true → are_formed_regions defined ss ≡ true
     regions_formed was defined more lined_no_region kept inside e = refl
     regions_formed was defined more (lined_region {b = b} {c = c} {r = r} {s = s} y d) kept inside e =
@@ -152,7 +152,7 @@ module _ (Old : ℕ → Type 0) (G : ℕ → Op → List Op → Type 0) (H : ℕ
         (blocks_formed was defined (own_labels b) (regions_values s more) y kept inside (and_first (are_formed_blocks was (own_labels b) b) _ e)))
         (regions_formed was defined more d kept (λ x t h. inside x t (behind_blocks x t c (regions_values s more) h)) (and_second (are_formed_blocks was (own_labels b) b) _ e))
 
-    blocks_formed : {n : ℕ} {bs cs : Blocks} (was defined labels : List ℕ) (more : Values) → LinedBlocks G H n bs cs → ((x : ℕ) → has x was ≡ true → has x defined ≡ true)
+    blocks_formed : {n : ℕ} {bs cs : Blocks} (was defined labels : List ℕ) (more : Values) → LinedBlocks K G H n bs cs → ((x : ℕ) → has x was ≡ true → has x defined ≡ true)
         → ((x : ℕ) (t : PlainType) → HasValue x t (blocks_values cs more) → has x defined ≡ true) → are_formed_blocks was labels bs ≡ true → are_formed_blocks defined labels cs ≡ true
     blocks_formed was defined labels more lined_no_block kept inside e = refl
     blocks_formed was defined labels more (lined_block {args = args} {ops = ops} {qs = qs} {b = b} {c = c} y d) kept inside e =
@@ -163,7 +163,7 @@ module _ (Old : ℕ → Type 0) (G : ℕ → Op → List Op → Type 0) (H : ℕ
         (blocks_formed was defined labels more d kept (λ x t h. inside x t (value_right x t args (ops_values qs (blocks_values c more)) (behind_ops x t qs (blocks_values c more) h))) (and_second (are_formed_ops was labels ops) _ parts)))
 
   -- a function in whose regions operations are replaced is formed, where it defines each number once
-  pub lined_formed : {n : ℕ} (k : Kind) (rs : Values) (os ls : List ℕ) {r s : Regions} → LinedRegions G H n r s → DefinesOnce (op k rs os s ls) → is_formed_function (op k rs os r ls) ≡ true → is_formed_function (op k rs os s ls) ≡ true
+  pub lined_formed : {n : ℕ} (k : Kind) (rs : Values) (os ls : List ℕ) {r s : Regions} → LinedRegions K G H n r s → DefinesOnce (op k rs os s ls) → is_formed_function (op k rs os r ls) ≡ true → is_formed_function (op k rs os s ls) ≡ true
   lined_formed k rs os ls {r = r} {s = s} y once e =
       let was : List ℕ = numbers (op_values (op k rs os r ls) []) in
       let defined : List ℕ = numbers (op_values (op k rs os s ls) []) in
@@ -171,7 +171,7 @@ module _ (Old : ℕ → Type 0) (G : ℕ → Op → List Op → Type 0) (H : ℕ
       value_among (op_values (op k rs os s ls) []) x (type_in (op_values (op k rs os r ls) []) x)
       (elim (value_cases x (type_in (op_values (op k rs os r ls) []) x) rs (regions_values r []) (type_of_value (op_values (op k rs os r ls) []) x h)) [
         | inl a ↦ value_left x _ rs (regions_values s []) a
-        | inr a ↦ value_right x _ rs (regions_values s []) (regions_kept G H line_keeps turn_keeps x _ [] [] y (λ z. z) a)
+        | inr a ↦ value_right x _ rs (regions_values s []) (regions_kept K G H line_keeps turn_keeps x _ [] [] y (λ z. z) a)
       ]) in
       let p1 = and_second (is_function_name k.name) _ e in
       let p2 = and_second (are_once was) _ p1 in

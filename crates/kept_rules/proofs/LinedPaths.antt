@@ -47,7 +47,7 @@ near_steps Old v o rest tail rs made (p ∷ l) s none behind =
     free : FreeOp v p → FreeOp v o
     free h = free_operand v o (step_uses v (operands_of o) made p s.0 s.2 none h)
 
-module _ (Old : ℕ → Type 0) (G : ℕ → Op → List Op → Type 0) (H : ℕ → Op → List Op → Op → Type 0)
+module _ (Old : ℕ → Type 0) (K : ℕ → Op → Type 0) (G : ℕ → Op → List Op → Type 0) (H : ℕ → Op → List Op → Op → Type 0)
     (line : (n : ℕ) (o : Op) (l : List Op) → G n o l → Line Old o l) (turn : (n : ℕ) (o : Op) (l : List Op) (t : Op) → H n o l t → Turn Old o l t) where
   -- what a line defines of old numbers
   pub line_binds : (v n : ℕ) (o : Op) (l : List Op) → Old v → G n o l → has v (bound_by l) ≡ has v (results_of o)
@@ -59,16 +59,16 @@ module _ (Old : ℕ → Type 0) (G : ℕ → Op → List Op → Type 0) (H : ℕ
   turn_binds v n o l t old h = not_so (has v (bound_by l)) (λ e. true≢false (sym (steps_old Old v [] (operands_of o) [] l old (turn n o l t h).steps e)))
 
   mutual
-    pub ops_bind : (v : ℕ) {n : ℕ} {os ps : Ops} → Old v → LinedOps G H n os ps → binds_in_ops v ps ≡ binds_in_ops v os
+    pub ops_bind : (v : ℕ) {n : ℕ} {os ps : Ops} → Old v → LinedOps K G H n os ps → binds_in_ops v ps ≡ binds_in_ops v os
     ops_bind v old lined_end = refl
-    ops_bind v old (stays {rs = rs} r d) = ap (λ b. has v (numbers rs) || b) (ops_bind v old d)
+    ops_bind v old (stays {rs = rs} _ r d) = ap (λ b. has v (numbers rs) || b) (ops_bind v old d)
     ops_bind v old (swaps {n = n} {o = o} l {rest = rest} {more = more} g d) =
         binds_put v l more ∙ ap (λ b. b || binds_in_ops v more) (line_binds v n o l old g) ∙ ap (λ b. has v (results_of o) || b) (ops_bind v old d)
     ops_bind v old (turns {n = n} {o = o} l t {rest = rest} {more = more} h d) =
         binds_put v l (more_ops t more) ∙ ap (λ b. b || (has v (results_of t) || binds_in_ops v more)) (turn_binds v n o l t old h)
         ∙ ap (λ xs. has v xs || binds_in_ops v more) ((turn n o l t h).none ∙ sym (turn n o l t h).was_none) ∙ ap (λ b. has v (results_of o) || b) (ops_bind v old d)
 
-    pub blocks_bind : (v : ℕ) {n : ℕ} {bs cs : Blocks} → Old v → LinedBlocks G H n bs cs → binds v cs ≡ binds v bs
+    pub blocks_bind : (v : ℕ) {n : ℕ} {bs cs : Blocks} → Old v → LinedBlocks K G H n bs cs → binds v cs ≡ binds v bs
     blocks_bind v old lined_no_block = refl
     blocks_bind v old (lined_block {args = args} {ops = ops} {c = c} d rest) =
         ap (λ b. has v (numbers args) || (b || binds v c)) (ops_bind v old d) ∙ ap (λ b. has v (numbers args) || (binds_in_ops v ops || b)) (blocks_bind v old rest)
@@ -88,11 +88,11 @@ module _ (Old : ℕ → Type 0) (G : ℕ → Op → List Op → Type 0) (H : ℕ
 
   mutual
     -- free uses of the new tree are free uses of the old one
-    pub ops_free : (v : ℕ) {n : ℕ} {os ps : Ops} → Old v → LinedOps G H n os ps → binds_in_ops v ps ≡ false → FreeOps v ps → FreeOps v os
+    pub ops_free : (v : ℕ) {n : ℕ} {os ps : Ops} → Old v → LinedOps K G H n os ps → binds_in_ops v ps ≡ false → FreeOps v ps → FreeOps v os
     ops_free v old lined_end none free = free
-    ops_free v old (stays {rs = rs} r d) none (inl (inl h)) = inl (inl h)
-    ops_free v old (stays {rs = rs} r d) none (inl (inr h)) = inl (inr (regions_free v old r h))
-    ops_free v old (stays {rs = rs} r d) none (inr h) = inr (ops_free v old d (or_second (has v (numbers rs)) _ none) h)
+    ops_free v old (stays {rs = rs} _ r d) none (inl (inl h)) = inl (inl h)
+    ops_free v old (stays {rs = rs} _ r d) none (inl (inr h)) = inl (inr (regions_free v old r h))
+    ops_free v old (stays {rs = rs} _ r d) none (inr h) = inr (ops_free v old d (or_second (has v (numbers rs)) _ none) h)
     ops_free v old (swaps {n = n} {o = o} l {more = more} g d) none free =
         let apart = sym (binds_put v l more) ∙ none in
         elim (steps_free v o (results_of o) [] l more (line n o l g).steps refl (or_first (has v (bound_by l)) _ apart) free) [
@@ -109,24 +109,24 @@ module _ (Old : ℕ → Type 0) (G : ℕ → Op → List Op → Type 0) (H : ℕ
           ]
         ]
 
-    pub regions_free : (v : ℕ) {n : ℕ} {rs ss : Regions} → Old v → LinedRegions G H n rs ss → FreeRegions v ss → FreeRegions v rs
+    pub regions_free : (v : ℕ) {n : ℕ} {rs ss : Regions} → Old v → LinedRegions K G H n rs ss → FreeRegions v ss → FreeRegions v rs
     regions_free v old lined_no_region free = free
     regions_free v old (lined_region b r) (inl h) = inl (sym (blocks_bind v old b) ∙ h.0, blocks_free v old b h.0 h.1)
     regions_free v old (lined_region b r) (inr h) = inr (regions_free v old r h)
 
-    pub blocks_free : (v : ℕ) {n : ℕ} {bs cs : Blocks} → Old v → LinedBlocks G H n bs cs → binds v cs ≡ false → FreeBlocks v cs → FreeBlocks v bs
+    pub blocks_free : (v : ℕ) {n : ℕ} {bs cs : Blocks} → Old v → LinedBlocks K G H n bs cs → binds v cs ≡ false → FreeBlocks v cs → FreeBlocks v bs
     blocks_free v old lined_no_block none free = free
     blocks_free v old (lined_block {args = args} {qs = qs} d rest) none (inl h) = inl (ops_free v old d (or_first (binds_in_ops v qs) _ (or_second (has v (numbers args)) _ none)) h)
     blocks_free v old (lined_block {args = args} {qs = qs} d rest) none (inr h) = inr (blocks_free v old rest (or_second (binds_in_ops v qs) _ (or_second (has v (numbers args)) _ none)) h)
 
-  stays_free : (v n : ℕ) (k : Kind) (rs : Values) (os ls : List ℕ) {r s : Regions} → Old v → LinedRegions G H n r s → FreeOp v (op k rs os s ls) → FreeOp v (op k rs os r ls)
+  stays_free : (v n : ℕ) (k : Kind) (rs : Values) (os ls : List ℕ) {r s : Regions} → Old v → LinedRegions K G H n r s → FreeOp v (op k rs os s ls) → FreeOp v (op k rs os r ls)
   stays_free v n k rs os ls old d (inl h) = inl h
   stays_free v n k rs os ls old d (inr h) = inr (regions_free v old d h)
 
   -- the new operations follow the old ones
-  pub ops_near : (v : ℕ) {n : ℕ} {os ps : Ops} → Old v → LinedOps G H n os ps → Near v (FreeOp v) os ps
+  pub ops_near : (v : ℕ) {n : ℕ} {os ps : Ops} → Old v → LinedOps K G H n os ps → Near v (FreeOp v) os ps
   ops_near v old lined_end = both_end
-  ops_near v old (stays {n = n} {k = k} {rs = rs} {os = os} {ls = ls} {r = r} {s = s} x d) =
+  ops_near v old (stays {n = n} {k = k} {rs = rs} {os = os} {ls = ls} {r = r} {s = s} _ x d) =
       by_test (ends (op k rs os r ls)) (λ e. both refl refl (λ f. clash e f) (stays_free v (n + 1) k rs os ls old x) (ops_near v old d))
       (λ e. by_test (has v (numbers rs)) (λ f. binds_it e f (stays_free v (n + 1) k rs os ls old x)) (λ f. both refl refl (λ g. f) (stays_free v (n + 1) k rs os ls old x) (ops_near v old d)))
   ops_near v old (swaps {n = n} {o = o} l {rest = rest} {more = more} g d) =
@@ -139,13 +139,13 @@ module _ (Old : ℕ → Type 0) (G : ℕ → Op → List Op → Type 0) (H : ℕ
   abbrev block_with : ℕ → Values → Ops → PlainBlock
   block_with l args ops = record { label = l; args = args; ops = ops }
 
-  first_started : (v : ℕ) {n : ℕ} {bs cs : Blocks} → Old v → LinedBlocks G H n bs cs → (c : PlainBlock) → first_block cs ≡ Some c → has v (numbers c.args) ≡ false → Started v (FreeOp v) (first_block bs) c
+  first_started : (v : ℕ) {n : ℕ} {bs cs : Blocks} → Old v → LinedBlocks K G H n bs cs → (c : PlainBlock) → first_block cs ≡ Some c → has v (numbers c.args) ≡ false → Started v (FreeOp v) (first_block bs) c
   first_started v old lined_no_block c e = absurd (none-some c e)
   first_started v old (lined_block {l = l} {args = args} {ops = ops} {qs = qs} d rest) c e =
       subst (λ (x : PlainBlock). has v (numbers x.args) ≡ false → Started v (FreeOp v) (Some (block_with l args ops)) x) (some_same (block_with l args qs) c e)
       (λ f. record { at = block_with l args ops; is = refl; starts = starts_near f (ops_near v old d) })
 
-  each_started : (v : ℕ) {n : ℕ} {bs cs : Blocks} → Old v → LinedBlocks G H n bs cs → (t : ℕ) (c : PlainBlock) → block_of t cs ≡ Some c → has v (numbers c.args) ≡ false → Started v (FreeOp v) (block_of t bs) c
+  each_started : (v : ℕ) {n : ℕ} {bs cs : Blocks} → Old v → LinedBlocks K G H n bs cs → (t : ℕ) (c : PlainBlock) → block_of t cs ≡ Some c → has v (numbers c.args) ≡ false → Started v (FreeOp v) (block_of t bs) c
   each_started v old lined_no_block t c e = absurd (none-some c e)
   each_started v old (lined_block {l = l} {args = args} {ops = ops} {qs = qs} {b = b} {c = c} d rest) t x e = go (l == t) e (each_started v old rest t x)
     where
@@ -157,5 +157,5 @@ module _ (Old : ℕ → Type 0) (G : ℕ → Op → List Op → Type 0) (H : ℕ
           (λ f. record { at = block_with l args ops; is = refl; starts = starts_near f (ops_near v old d) })
       go false k later = later k
 
-  pub alike : (v : ℕ) {n : ℕ} {bs cs : Blocks} → Old v → LinedBlocks G H n bs cs → Alike bs cs v (FreeOp v)
+  pub alike : (v : ℕ) {n : ℕ} {bs cs : Blocks} → Old v → LinedBlocks K G H n bs cs → Alike bs cs v (FreeOp v)
   alike v old d = record { first = first_started v old d; each = each_started v old d }

@@ -108,13 +108,13 @@ steps_defined Old cs outer l rs os made bound (p ∷ ps) tail s all steps known 
       (λ x h. elim (has_cases x (results_of p) (bound_by ps) h) [ inl e ↦ keeps x (has_left x (results_of p) bound e) | inr e ↦ inner x e ])),
 )
 
-module _ (Old : ℕ → Type 0) (OldLabel : ℕ → Type 0) (G : ℕ → Op → List Op → Type 0) (H : ℕ → Op → List Op → Op → Type 0)
+module _ (Old : ℕ → Type 0) (OldLabel : ℕ → Type 0) (K : ℕ → Op → Type 0) (G : ℕ → Op → List Op → Type 0) (H : ℕ → Op → List Op → Op → Type 0)
     (line : (n : ℕ) (o : Op) (l : List Op) → G n o l → Line Old o l) (turn : (n : ℕ) (o : Op) (l : List Op) (t : Op) → H n o l t → Turn Old o l t) where
   mutual
     lined_ops : {n : ℕ} {os ps : Ops} (bs : Blocks) (was : ℕ → Type 0) (before : List ℕ) (cs : Blocks) (outer : ℕ → Type 0) (l : ℕ) (bound : List ℕ) → Settled Old cs outer
-        → LinedOps G H n os ps → EachOps Old OldLabel os → DefinedOps bs was l before os → Bounds cs bound → Within cs ps → DefinedOps cs outer l bound ps
+        → LinedOps K G H n os ps → EachOps Old OldLabel os → DefinedOps bs was l before os → Bounds cs bound → Within cs ps → DefinedOps cs outer l bound ps
     lined_ops bs was before cs outer l bound s lined_end each d b w = tt
-    lined_ops bs was before cs outer l bound s (stays {k = k} {rs = rs} {os = os} {ls = ls} {r = r} {s = t} {rest = rest} {more = more} x y) each d b w = (
+    lined_ops bs was before cs outer l bound s (stays {k = k} {rs = rs} {os = os} {ls = ls} {r = r} {s = t} {rest = rest} {more = more} _ x y) each d b w = (
       (
         all_of (DefinedAt cs outer l bound (more_ops (op k rs os t ls) more)) os
             (λ u h. s.used u l bound (op k rs os t ls) more (has_of Old u os (each_all Old os each.0.1) h) (inl h) (w.free u (inl (inl h)))),
@@ -134,17 +134,17 @@ module _ (Old : ℕ → Type 0) (OldLabel : ℕ → Type 0) (G : ℕ → Op → 
           lined_ops bs was (results_of o ++ before) cs outer l (results_of t ++ c) s y each.1 d.1 (bounds_on t c v d2) (behind v),
         ))
 
-    pub lined_regions : {n : ℕ} {rs ss : Regions} (was outer : ℕ → Type 0) → LinedRegions G H n rs ss → DefinedRegions was rs → EachRegion Old OldLabel rs → ((u : ℕ) → Old u → FreeRegions u ss → outer u) → DefinedRegions outer ss
+    pub lined_regions : {n : ℕ} {rs ss : Regions} (was outer : ℕ → Type 0) → LinedRegions K G H n rs ss → DefinedRegions was rs → EachRegion Old OldLabel rs → ((u : ℕ) → Old u → FreeRegions u ss → outer u) → DefinedRegions outer ss
     lined_regions was outer lined_no_region d each covers = tt
     lined_regions was outer (lined_region {b = bs} {c = cs} x y) d each covers = (
       lined_blocks bs was cs outer
-          (settled Old bs cs was outer d.0 (λ u old. alike Old G H line turn u old x) (λ u old e. sym (blocks_bind Old G H line turn u old x) ∙ e) (λ u old none free. covers u old (inl (none, free))))
+          (settled Old bs cs was outer d.0 (λ u old. alike Old K G H line turn u old x) (λ u old e. sym (blocks_bind Old K G H line turn u old x) ∙ e) (λ u old none free. covers u old (inl (none, free))))
           (λ u f. f) (λ u e. e) x each.0 d.0,
       lined_regions was outer y d.1 each.1 (λ u old free. covers u old (inr free)),
     )
 
     lined_blocks : {n : ℕ} {xs ys : Blocks} (bs : Blocks) (was : ℕ → Type 0) (cs : Blocks) (outer : ℕ → Type 0) → Settled Old cs outer → ((u : ℕ) → FreeBlocks u ys → FreeBlocks u cs) → ((u : ℕ) → binds u ys ≡ true → binds u cs ≡ true)
-        → LinedBlocks G H n xs ys → EachBlock Old OldLabel xs → DefinedBlocks bs was xs → DefinedBlocks cs outer ys
+        → LinedBlocks K G H n xs ys → EachBlock Old OldLabel xs → DefinedBlocks bs was xs → DefinedBlocks cs outer ys
     lined_blocks bs was cs outer s free own lined_no_block each d = tt
     lined_blocks bs was cs outer s free own (lined_block {l = l} {args = args} {qs = qs} x y) each d = (
       lined_ops bs was (numbers args) cs outer l (numbers args) s x each.2 d.0 (λ u h. own u (or_left (has u (numbers args)) _ h))
@@ -153,8 +153,8 @@ module _ (Old : ℕ → Type 0) (OldLabel : ℕ → Type 0) (G : ℕ → Op → 
     )
 
   -- a function in whose regions operations are replaced keeps the rule
-  pub lined_defined : {n : ℕ} (k : Kind) (rs : Values) (os ls : List ℕ) {r s : Regions} → LinedRegions G H n r s → EachOp Old OldLabel (op k rs os r ls) → DefinedFunction (op k rs os r ls) → DefinedFunction (op k rs os s ls)
+  pub lined_defined : {n : ℕ} (k : Kind) (rs : Values) (os ls : List ℕ) {r s : Regions} → LinedRegions K G H n r s → EachOp Old OldLabel (op k rs os r ls) → DefinedFunction (op k rs os r ls) → DefinedFunction (op k rs os s ls)
   lined_defined k rs os ls {r = r} x each d = (
     d.0,
-    lined_regions (λ u. ⊥) (λ u. ⊥) x d.1 each.2 (λ u old free. free_regions (λ v. ⊥) u r d.1 (regions_free Old G H line turn u old x free)),
+    lined_regions (λ u. ⊥) (λ u. ⊥) x d.1 each.2 (λ u old free. free_regions (λ v. ⊥) u r d.1 (regions_free Old K G H line turn u old x free)),
   )

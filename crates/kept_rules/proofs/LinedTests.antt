@@ -77,26 +77,26 @@ all_agree was (x ∷ os) agree all = (agree x all.0, all_agree was os agree all.
 abbrev ended : Ops → Bool
 ended os = ends_well (last_in os)
 
-module _ (Old : ℕ → Type 0) (T S : ℕ → PlainType) (G : ℕ → Op → List Op → Type 0) (H : ℕ → Op → List Op → Op → Type 0)
+module _ (Old : ℕ → Type 0) (T S : ℕ → PlainType) (K : ℕ → Op → Type 0) (G : ℕ → Op → List Op → Type 0) (H : ℕ → Op → List Op → Op → Type 0)
     (line : (n : ℕ) (o : Op) (l : List Op) → G n o l → Line Old o l) (keeping : (n : ℕ) (o : Op) (l : List Op) → G n o l → LineKeeps o l) (fitting : (n : ℕ) (o : Op) (l : List Op) → G n o l → LineFits T o l)
     (no_turn : (n : ℕ) (o : Op) (l : List Op) (t : Op) → H n o l t → ⊥) where
-  end_kept : {n : ℕ} {os ps : Ops} → LinedOps G H n os ps → is_end ps ≡ is_end os
+  end_kept : {n : ℕ} {os ps : Ops} → LinedOps K G H n os ps → is_end ps ≡ is_end os
   end_kept lined_end = refl
-  end_kept (stays y d) = refl
+  end_kept (stays _ y d) = refl
   end_kept (swaps {n = n} {o = o} l {more = more} g d) = not_empty_end l more (fitting n o l g).some
   end_kept (turns {n = n} {o = o} l t h d) = absurd (no_turn n o l t h)
 
   -- the last operation of a block stays
-  last_kept : {n : ℕ} {os ps : Ops} (before after : List ℕ) → LinedOps G H n os ps → (ends_well (Some before) ≡ true → before ≡ after) → ends_well (Some (last_name before os)) ≡ true → last_name after ps ≡ last_name before os
+  last_kept : {n : ℕ} {os ps : Ops} (before after : List ℕ) → LinedOps K G H n os ps → (ends_well (Some before) ≡ true → before ≡ after) → ends_well (Some (last_name before os)) ≡ true → last_name after ps ≡ last_name before os
   last_kept before after lined_end same e = sym (same e)
-  last_kept before after (stays {k = k} y d) same e = last_kept k.name k.name d (λ f. refl) e
+  last_kept before after (stays {k = k} _ y d) same e = last_kept k.name k.name d (λ f. refl) e
   last_kept before after (swaps {n = n} {o = o} l {more = more} g d) same e =
       last_put after l more ∙ last_kept (name_of o) (last_of after l) d (λ f. clash f (fitting n o l g).not_last) e
   last_kept before after (turns {n = n} {o = o} l t h d) same e = absurd (no_turn n o l t h)
 
-  block_end : {n : ℕ} {os ps : Ops} → LinedOps G H n os ps → ended os ≡ true → last_in ps ≡ last_in os
+  block_end : {n : ℕ} {os ps : Ops} → LinedOps K G H n os ps → ended os ≡ true → last_in ps ≡ last_in os
   block_end lined_end e = refl
-  block_end (stays {k = k} y d) e = ap Some (last_kept k.name k.name d (λ f. refl) e)
+  block_end (stays {k = k} _ y d) e = ap Some (last_kept k.name k.name d (λ f. refl) e)
   block_end (swaps {n = n} {o = o} l {rest = rest} {more = more} g d) e = go l (fitting n o l g).some
     where
       go : (m : List Op) → is_empty m ≡ false → last_in (put_ops m more) ≡ Some (last_name (name_of o) rest)
@@ -107,12 +107,12 @@ module _ (Old : ℕ → Type 0) (T S : ℕ → PlainType) (G : ℕ → Op → Li
   abbrev head_of : List PlainType → Option (List ℕ) → Head
   head_of args last = record { args = args; last = last }
 
-  heads_kept : {n : ℕ} {bs cs : Blocks} → LinedBlocks G H n bs cs → list_all (λ (h : Head). ends_well h.last) (heads bs) ≡ true → heads cs ≡ heads bs
+  heads_kept : {n : ℕ} {bs cs : Blocks} → LinedBlocks K G H n bs cs → list_all (λ (h : Head). ends_well h.last) (heads bs) ≡ true → heads cs ≡ heads bs
   heads_kept lined_no_block e = refl
   heads_kept (lined_block {args = args} {ops = ops} {c = c} y d) e =
       ap (λ x. head_of (types args) x ∷ heads c) (block_end y (and_first (ended ops) _ e)) ∙ ap (λ xs. head_of (types args) (last_in ops) ∷ xs) (heads_kept d (and_second (ended ops) _ e))
 
-  regions_heads_kept : {n : ℕ} {rs ss : Regions} → LinedRegions G H n rs ss → list_all (λ hs. list_all (λ (h : Head). ends_well h.last) hs) (regions_heads rs) ≡ true → regions_heads ss ≡ regions_heads rs
+  regions_heads_kept : {n : ℕ} {rs ss : Regions} → LinedRegions K G H n rs ss → list_all (λ hs. list_all (λ (h : Head). ends_well h.last) hs) (regions_heads rs) ≡ true → regions_heads ss ≡ regions_heads rs
   regions_heads_kept lined_no_region e = refl
   regions_heads_kept (lined_region {b = b} {s = s} y d) e =
       ap (λ x. x ∷ regions_heads s) (heads_kept y (and_first (list_all (λ (h : Head). ends_well h.last) (heads b)) _ e))
@@ -122,7 +122,7 @@ module _ (Old : ℕ → Type 0) (T S : ℕ → PlainType) (G : ℕ → Op → Li
   abbrev args_at : Option PlainBlock → Option (List PlainType)
   args_at o = option_map (λ (b : PlainBlock). types b.args) o
 
-  args_kept : {n : ℕ} {bs cs : Blocks} (l : ℕ) → LinedBlocks G H n bs cs → args_at (block_of l cs) ≡ args_at (block_of l bs)
+  args_kept : {n : ℕ} {bs cs : Blocks} (l : ℕ) → LinedBlocks K G H n bs cs → args_at (block_of l cs) ≡ args_at (block_of l bs)
   args_kept l lined_no_block = refl
   args_kept l (lined_block {l = m} {args = args} {ops = ops} {qs = qs} {b = b} {c = c} y d) = go (m == l) (args_kept l d)
     where
@@ -131,11 +131,11 @@ module _ (Old : ℕ → Type 0) (T S : ℕ → PlainType) (G : ℕ → Op → Li
       go true e = refl
       go false e = e
 
-  first_kept : {n : ℕ} {bs cs : Blocks} (l : ℕ) → LinedBlocks G H n bs cs → is_first l cs ≡ is_first l bs
+  first_kept : {n : ℕ} {bs cs : Blocks} (l : ℕ) → LinedBlocks K G H n bs cs → is_first l cs ≡ is_first l bs
   first_kept l lined_no_block = refl
   first_kept l (lined_block y d) = refl
 
-  target_kept : {n : ℕ} {bs cs : Blocks} → LinedBlocks G H n bs cs → (l : ℕ) → target cs l ≡ target bs l
+  target_kept : {n : ℕ} {bs cs : Blocks} → LinedBlocks K G H n bs cs → (l : ℕ) → target cs l ≡ target bs l
   target_kept {bs = bs} {cs = cs} d l =
       ap (λ x. target_of x (is_first l cs)) (args_kept l d) ∙ ap (λ x. target_of (args_at (block_of l bs)) x) (first_kept l d)
     where
@@ -158,10 +158,10 @@ module _ (Old : ℕ → Type 0) (T S : ℕ → PlainType) (G : ℕ → Op → Li
   holder_with k operands results n = record { name = k.name; props = k.props; operands = operands; results = results; region = n }
 
   mutual
-    ops_tests : {n : ℕ} {os ps : Ops} (c : Functions) (h : Option Holder) (bs cs : Blocks) (was labels : List ℕ) (more : Values) → LinedOps G H n os ps → ((l : ℕ) → target cs l ≡ target bs l)
+    ops_tests : {n : ℕ} {os ps : Ops} (c : Functions) (h : Option Holder) (bs cs : Blocks) (was labels : List ℕ) (more : Values) → LinedOps K G H n os ps → ((l : ℕ) → target cs l ≡ target bs l)
         → ((x : ℕ) → has x was ≡ true → S x ≡ T x) → ((x : ℕ) (t : PlainType) → HasValue x t (ops_values ps more) → S x ≡ t) → are_formed_ops was labels os ≡ true → KeptOps c T h bs os → KeptOps c S h cs ps
     ops_tests c h bs cs was labels more lined_end to agree inside e kept = tt
-    ops_tests c h bs cs was labels more (stays {k = k} {rs = rs} {os = os} {ls = ls} {r = r} {s = s} {rest = rest} {more = after} y d) to agree inside e kept =
+    ops_tests c h bs cs was labels more (stays {k = k} {rs = rs} {os = os} {ls = ls} {r = r} {s = s} {rest = rest} {more = after} _ y d) to agree inside e kept =
         let here : is_formed_op was labels (op k rs os r ls) ≡ true = and_first (is_formed_op was labels (op k rs os r ls)) _ e in
         let parts = and_second (is_inner_name k.name) _ here in
         let operands : AllOf (λ x. S x ≡ T x) os = all_agree was os agree (operands_defined was labels (op k rs os r ls) here) in
@@ -181,7 +181,7 @@ module _ (Old : ℕ → Type 0) (T S : ℕ → PlainType) (G : ℕ → Op → Li
         (ops_tests c h bs cs was labels more d to agree (λ x t v. inside x t (tail_value x t l after more v)) (and_second (is_formed_op was labels o) _ e) kept.1)
     ops_tests c h bs cs was labels more (turns {n = n} {o = o} l t x d) to agree inside e kept = absurd (no_turn n o l t x)
 
-    regions_tests : {n : ℕ} {rs ss : Regions} (c : Functions) (hold other : ℕ → Holder) (m : ℕ) (was : List ℕ) (more : Values) → LinedRegions G H n rs ss → ((i : ℕ) → other i ≡ hold i)
+    regions_tests : {n : ℕ} {rs ss : Regions} (c : Functions) (hold other : ℕ → Holder) (m : ℕ) (was : List ℕ) (more : Values) → LinedRegions K G H n rs ss → ((i : ℕ) → other i ≡ hold i)
         → ((x : ℕ) → has x was ≡ true → S x ≡ T x) → ((x : ℕ) (t : PlainType) → HasValue x t (regions_values ss more) → S x ≡ t) → are_formed_regions was rs ≡ true → KeptRegions c T hold m rs → KeptRegions c S other m ss
     regions_tests c hold other m was more lined_no_region same agree inside e kept = tt
     regions_tests c hold other m was more (lined_region {b = b} {c = d} {r = r} {s = s} y z) same agree inside e kept = (
@@ -190,7 +190,7 @@ module _ (Old : ℕ → Type 0) (T S : ℕ → PlainType) (G : ℕ → Op → Li
       regions_tests c hold other (m + 1) was more z same agree (λ x t v. inside x t (behind_blocks x t d (regions_values s more) v)) (and_second (are_formed_blocks was (own_labels b) b) _ e) kept.1,
     )
 
-    blocks_tests : {n : ℕ} {xs ys : Blocks} (c : Functions) (h : Option Holder) (bs cs : Blocks) (was labels : List ℕ) (more : Values) → LinedBlocks G H n xs ys → ((l : ℕ) → target cs l ≡ target bs l)
+    blocks_tests : {n : ℕ} {xs ys : Blocks} (c : Functions) (h : Option Holder) (bs cs : Blocks) (was labels : List ℕ) (more : Values) → LinedBlocks K G H n xs ys → ((l : ℕ) → target cs l ≡ target bs l)
         → ((x : ℕ) → has x was ≡ true → S x ≡ T x) → ((x : ℕ) (t : PlainType) → HasValue x t (blocks_values ys more) → S x ≡ t) → are_formed_blocks was labels xs ≡ true → KeptBlocks c T h bs xs → KeptBlocks c S h cs ys
     blocks_tests c h bs cs was labels more lined_no_block to agree inside e kept = tt
     blocks_tests c h bs cs was labels more (lined_block {args = args} {ops = ops} {qs = qs} {b = b} {c = d} y z) to agree inside e kept =
@@ -200,7 +200,7 @@ module _ (Old : ℕ → Type 0) (T S : ℕ → PlainType) (G : ℕ → Op → Li
         )
 
   -- a function in whose regions operations are replaced keeps the tests
-  pub lined_tests : {n : ℕ} (c : Functions) (k : Kind) (rs : Values) (os ls : List ℕ) {r s : Regions} (was : List ℕ) → LinedRegions G H n r s → ((x : ℕ) → has x was ≡ true → S x ≡ T x) → ((x : ℕ) (t : PlainType) → HasValue x t (regions_values s []) → S x ≡ t)
+  pub lined_tests : {n : ℕ} (c : Functions) (k : Kind) (rs : Values) (os ls : List ℕ) {r s : Regions} (was : List ℕ) → LinedRegions K G H n r s → ((x : ℕ) → has x was ≡ true → S x ≡ T x) → ((x : ℕ) (t : PlainType) → HasValue x t (regions_values s []) → S x ≡ t)
       → is_formed_here was [] k rs os ls ≡ true → are_formed_regions was r ≡ true → KeptOp c T None end_of_blocks end_of_ops (op k rs os r ls) → KeptOp c S None end_of_blocks end_of_ops (op k rs os s ls)
   lined_tests c k rs os ls {r = r} {s = s} was y agree inside e formed kept =
       let operands : AllOf (λ x. S x ≡ T x) os = all_agree was os agree (all_true (λ v. has v was) os (and_first (list_all (λ v. has v was) os) _ e)) in

@@ -42,13 +42,13 @@ pub tail_value : (x : ℕ) (t : PlainType) (l : List Op) (tail : Ops) (more : Va
 tail_value x t [] tail more h = h
 tail_value x t (p ∷ l) tail more h = behind_op x t p (ops_values (put_ops l tail) more) (tail_value x t l tail more h)
 
-module _ (G : ℕ → Op → List Op → Type 0) (H : ℕ → Op → List Op → Op → Type 0)
+module _ (K : ℕ → Op → Type 0) (G : ℕ → Op → List Op → Type 0) (H : ℕ → Op → List Op → Op → Type 0)
     (line : (n : ℕ) (o : Op) (l : List Op) → G n o l → LineKeeps o l) (turn : (n : ℕ) (o : Op) (l : List Op) (t : Op) → H n o l t → TurnKeeps o l t) where
   mutual
     -- each value is kept, with its type
-    pub ops_kept : {n : ℕ} {os ps : Ops} (x : ℕ) (t : PlainType) (more others : Values) → LinedOps G H n os ps → (HasValue x t more → HasValue x t others) → HasValue x t (ops_values os more) → HasValue x t (ops_values ps others)
+    pub ops_kept : {n : ℕ} {os ps : Ops} (x : ℕ) (t : PlainType) (more others : Values) → LinedOps K G H n os ps → (HasValue x t more → HasValue x t others) → HasValue x t (ops_values os more) → HasValue x t (ops_values ps others)
     ops_kept x t more others lined_end f h = f h
-    ops_kept x t more others (stays {rs = rs} {r = r} {s = s} {rest = rest} {more = after} y d) f h = elim (value_cases x t rs (regions_values r (ops_values rest more)) h) [
+    ops_kept x t more others (stays {rs = rs} {r = r} {s = s} {rest = rest} {more = after} _ y d) f h = elim (value_cases x t rs (regions_values r (ops_values rest more)) h) [
       | inl a ↦ value_left x t rs (regions_values s (ops_values after others)) a
       | inr a ↦ value_right x t rs (regions_values s (ops_values after others)) (regions_kept x t (ops_values rest more) (ops_values after others) y (ops_kept x t more others d f) a)
     ]
@@ -61,11 +61,11 @@ module _ (G : ℕ → Op → List Op → Type 0) (H : ℕ → Op → List Op →
       | inr a ↦ tail_value x t l (more_ops e after) others (behind_op x t e (ops_values after others) (ops_kept x t more others d f a))
     ]
 
-    pub regions_kept : {n : ℕ} {rs ss : Regions} (x : ℕ) (t : PlainType) (more others : Values) → LinedRegions G H n rs ss → (HasValue x t more → HasValue x t others) → HasValue x t (regions_values rs more) → HasValue x t (regions_values ss others)
+    pub regions_kept : {n : ℕ} {rs ss : Regions} (x : ℕ) (t : PlainType) (more others : Values) → LinedRegions K G H n rs ss → (HasValue x t more → HasValue x t others) → HasValue x t (regions_values rs more) → HasValue x t (regions_values ss others)
     regions_kept x t more others lined_no_region f h = f h
     regions_kept x t more others (lined_region {r = r} {s = s} y d) f h = blocks_kept x t (regions_values r more) (regions_values s others) y (regions_kept x t more others d f) h
 
-    pub blocks_kept : {n : ℕ} {bs cs : Blocks} (x : ℕ) (t : PlainType) (more others : Values) → LinedBlocks G H n bs cs → (HasValue x t more → HasValue x t others) → HasValue x t (blocks_values bs more) → HasValue x t (blocks_values cs others)
+    pub blocks_kept : {n : ℕ} {bs cs : Blocks} (x : ℕ) (t : PlainType) (more others : Values) → LinedBlocks K G H n bs cs → (HasValue x t more → HasValue x t others) → HasValue x t (blocks_values bs more) → HasValue x t (blocks_values cs others)
     blocks_kept x t more others lined_no_block f h = f h
     blocks_kept x t more others (lined_block {args = args} {ops = ops} {qs = qs} {b = b} {c = c} y d) f h = elim (value_cases x t args (ops_values ops (blocks_values b more)) h) [
       | inl a ↦ value_left x t args (ops_values qs (blocks_values c others)) a

@@ -133,6 +133,9 @@ module _ (bits : ℕ) (table : List Pattern) (illegal : List (List ℕ)) (typed 
     abbrev Lines : ℕ → Op → List Op → Type 0
     Lines n o l = Good (IsOld new) (new.value n 0) T o l × (at n ≡ operands_of o)
 
+    abbrev Stays : ℕ → Op → Type 0
+    Stays n o = Unit {0}
+
     abbrev NoTurns : ℕ → Op → List Op → Op → Type 0
     NoTurns n o l t = ⊥
 
@@ -143,7 +146,7 @@ module _ (bits : ℕ) (table : List Pattern) (illegal : List (List ℕ)) (typed 
     uncut n o = if_uncut (demanded Partial (partial_target illegal []) (of_shape T o)) (choice_in pass bits new T n o) (choice_uncut bits (partial_target illegal []) table (new.row n) T o straight)
 
     put_here : (c : Functions) (h : Option Holder) (bs : Blocks) (rest : Ops) (labels : List ℕ) (n : ℕ) (k : Kind) (rs : Values) (os ls : List ℕ) (r s : Regions) → at n ≡ os → KeptOp c T h bs rest (op k rs os r ls) → is_formed_op was labels (op k rs os r ls) ≡ true
-        → Put Lines NoTurns n (op k rs os r ls) (op k rs os s ls) (way.line (record { number = n; piece = 0; path = [] }) (of_shape T (op k rs os r ls)) (op k rs os s ls))
+        → Put Stays Lines NoTurns n (op k rs os r ls) (op k rs os s ls) (way.line (record { number = n; piece = 0; path = [] }) (of_shape T (op k rs os r ls)) (op k rs os s ls))
     put_here c h bs rest labels n k rs os ls r s is kept formed = by_demand (demanded Partial (partial_target illegal []) o) refl
       where
         o : Shape
@@ -155,45 +158,45 @@ module _ (bits : ℕ) (table : List Pattern) (illegal : List (List ℕ)) (typed 
         kept_op : Op
         kept_op = op k rs os s ls
 
-        by_leaves : (t : Option Template) → chosen bits (partial_target illegal []) table [] (of_shape T (op k rs os r ls)) ≡ t → is_among illegal k.name ≡ true → Put Lines NoTurns n (op k rs os r ls) (op k rs os s ls) (line_by (new.value n 0) (op k rs os s ls) t)
-        by_leaves None e among = put_itself
+        by_leaves : (t : Option Template) → chosen bits (partial_target illegal []) table [] (of_shape T (op k rs os r ls)) ≡ t → is_among illegal k.name ≡ true → Put Stays Lines NoTurns n (op k rs os r ls) (op k rs os s ls) (line_by (new.value n 0) (op k rs os s ls) t)
+        by_leaves None e among = put_itself tt
         by_leaves (Some t) e among =
             let fits : Fits (of_shape T (op k rs os r ls)) = source_fits c T h bs rest was labels k rs os ls r (among_of CalcName illegal k.name calc among) kept.0 formed good in
             put_line (written (new.value n 0) rs os ls t [])
             (written_good (IsOld new) (new.value n 0) T k rs os ls r t (λ x j. new_apart new x n j) fits (table_typed Fits bits (partial_target illegal []) table [] few_results own_fits typed (of_shape T (op k rs os r ls)) t fits e), is)
 
         by_legal : (b : Bool) → is_among illegal k.name ≡ true
-            → Put Lines NoTurns n (op k rs os r ls) (op k rs os s ls) (if b then op k rs os s ls ∷ [] else line_by (new.value n 0) (op k rs os s ls) (chosen bits (partial_target illegal []) table [] (of_shape T (op k rs os r ls))))
-        by_legal true among = put_itself
+            → Put Stays Lines NoTurns n (op k rs os r ls) (op k rs os s ls) (if b then op k rs os s ls ∷ [] else line_by (new.value n 0) (op k rs os s ls) (chosen bits (partial_target illegal []) table [] (of_shape T (op k rs os r ls))))
+        by_legal true among = put_itself tt
         by_legal false among = by_leaves (chosen bits (partial_target illegal []) table [] (of_shape T (op k rs os r ls))) refl among
 
         by_demand : (b : Bool) → demanded Partial (partial_target illegal []) (of_shape T (op k rs os r ls)) ≡ b
-            → Put Lines NoTurns n (op k rs os r ls) (op k rs os s ls)
+            → Put Stays Lines NoTurns n (op k rs os r ls) (op k rs os s ls)
             (if not b then op k rs os s ls ∷ [] else if is_legal (partial_target illegal []) (of_shape T (op k rs os r ls)) then op k rs os s ls ∷ []
             else line_by (new.value n 0) (op k rs os s ls) (chosen bits (partial_target illegal []) table [] (of_shape T (op k rs os r ls))))
-        by_demand false e = put_itself
+        by_demand false e = put_itself tt
         by_demand true e = by_legal (is_legal (partial_target illegal []) (of_shape T (op k rs os r ls))) (demanded_among illegal (of_shape T (op k rs os r ls)) e)
 
     mutual
-      put_op : (c : Functions) (h : Option Holder) (bs : Blocks) (rest : Ops) (labels : List ℕ) (n : ℕ) (o : Op) → AtOp at n o → KeptOp c T h bs rest o → is_formed_op was labels o ≡ true → PutOp way Lines NoTurns uncut n o
+      put_op : (c : Functions) (h : Option Holder) (bs : Blocks) (rest : Ops) (labels : List ℕ) (n : ℕ) (o : Op) → AtOp at n o → KeptOp c T h bs rest o → is_formed_op was labels o ≡ true → PutOp way Stays Lines NoTurns uncut n o
       put_op c h bs rest labels n (op k rs os r ls) a kept e = (
         λ s. put_here c h bs rest labels n k rs os ls r s a.0 kept e,
         put_regions c (holds T (op k rs os r ls)) 0 (n + 1) r a.1 kept.1 (and_second (is_formed_here was labels k rs os ls) _ (and_second (is_inner_name k.name) _ e)),
       )
 
-      put_ops_all : (c : Functions) (h : Option Holder) (bs : Blocks) (labels : List ℕ) (n : ℕ) (os : Ops) → AtOps at n os → KeptOps c T h bs os → are_formed_ops was labels os ≡ true → PutOps way Lines NoTurns uncut n os
+      put_ops_all : (c : Functions) (h : Option Holder) (bs : Blocks) (labels : List ℕ) (n : ℕ) (os : Ops) → AtOps at n os → KeptOps c T h bs os → are_formed_ops was labels os ≡ true → PutOps way Stays Lines NoTurns uncut n os
       put_ops_all c h bs labels n end_of_ops a kept e = tt
       put_ops_all c h bs labels n (more_ops o rest) a kept e =
           (put_op c h bs rest labels n o a.0 kept.0 (and_first (is_formed_op was labels o) _ e), put_ops_all c h bs labels (n + op_size o) rest a.1 kept.1 (and_second (is_formed_op was labels o) _ e))
 
-      put_regions : (c : Functions) (holder : ℕ → Holder) (m n : ℕ) (rs : Regions) → AtRegions at n rs → KeptRegions c T holder m rs → are_formed_regions was rs ≡ true → PutRegions way Lines NoTurns uncut n rs
+      put_regions : (c : Functions) (holder : ℕ → Holder) (m n : ℕ) (rs : Regions) → AtRegions at n rs → KeptRegions c T holder m rs → are_formed_regions was rs ≡ true → PutRegions way Stays Lines NoTurns uncut n rs
       put_regions c holder m n end_of_regions a kept e = tt
       put_regions c holder m n (region b r) a kept e = (
         put_blocks c (Some (holder m)) b (own_labels b) n b a.0 kept.0 (and_first (are_formed_blocks was (own_labels b) b) _ e),
         put_regions c holder (m + 1) (n + blocks_size b) r a.1 kept.1 (and_second (are_formed_blocks was (own_labels b) b) _ e),
       )
 
-      put_blocks : (c : Functions) (h : Option Holder) (bs : Blocks) (labels : List ℕ) (n : ℕ) (cs : Blocks) → AtBlocks at n cs → KeptBlocks c T h bs cs → are_formed_blocks was labels cs ≡ true → PutBlocks way Lines NoTurns uncut n cs
+      put_blocks : (c : Functions) (h : Option Holder) (bs : Blocks) (labels : List ℕ) (n : ℕ) (cs : Blocks) → AtBlocks at n cs → KeptBlocks c T h bs cs → are_formed_blocks was labels cs ≡ true → PutBlocks way Stays Lines NoTurns uncut n cs
       put_blocks c h bs labels n end_of_blocks a kept e = tt
       put_blocks c h bs labels n (block l args ops more) a kept e =
           let parts = and_second (are_formed_values args) _ e in
@@ -220,8 +223,8 @@ module _ (bits : ℕ) (table : List Pattern) (illegal : List (List ℕ)) (typed 
       let good : (x : ℕ) → has x was ≡ true → GoodType (T x) = λ x h. function_good c T was k rs os ls r x (T x) parts.tests own inside (type_of_value (op_values f []) x h) in
       let s : Regions = whole_regions (held_regions (ways pass bits new T) 1 r) in
       let h : Op = op k rs os s ls in
-      let lined : LinedRegions (Lines new T at was good) (NoTurns new T at was good) 1 r s =
-      whole_lined (way new T at was good) (Lines new T at was good) (NoTurns new T at was good) (uncut new T at was good) 1 r
+      let lined : LinedRegions (Stays new T at was good) (Lines new T at was good) (NoTurns new T at was good) 1 r s =
+      whole_lined (way new T at was good) (Stays new T at was good) (Lines new T at was good) (NoTurns new T at was good) (uncut new T at was good) 1 r
       (put_regions new T at was good c (holds T f) 0 1 r (numbered 1 r) parts.tests.1 inside) in
       let line_of : (n : ℕ) (o : Op) (l : List Op) → Lines new T at was good n o l → Line (IsOld new) o l = λ n o l x. x.0.line in
       let turn_of : (n : ℕ) (o : Op) (l : List Op) (t : Op) → NoTurns new T at was good n o l t → Turn (IsOld new) o l t = λ n o l t x. absurd x in
@@ -230,23 +233,23 @@ module _ (bits : ℕ) (table : List Pattern) (illegal : List (List ℕ)) (typed 
       let kept : (x : ℕ) (t : PlainType) → HasValue x t (op_values f []) → HasValue x t (op_values h []) = λ x t v.
       elim (value_cases x t rs (regions_values r []) v) [
         | inl a ↦ value_left x t rs (regions_values s []) a
-        | inr a ↦ value_right x t rs (regions_values s []) (regions_kept (Lines new T at was good) (NoTurns new T at was good) keeps_of turn_keeps x t [] [] lined (λ z. z) a)
+        | inr a ↦ value_right x t rs (regions_values s []) (regions_kept (Stays new T at was good) (Lines new T at was good) (NoTurns new T at was good) keeps_of turn_keeps x t [] [] lined (λ z. z) a)
       ] in
       let kept_number : (x : ℕ) → has x was ≡ true → has x (numbers (op_values h [])) ≡ true = λ x a. value_among (op_values h []) x (T x) (kept x (T x) (type_of_value (op_values f []) x a)) in
       let formed_inside : are_formed_regions (numbers (op_values h [])) s ≡ true =
-      regions_formed (IsOld new) (Lines new T at was good) (NoTurns new T at was good) line_of turn_of keeps_of turn_keeps was (numbers (op_values h [])) [] lined kept_number
+      regions_formed (IsOld new) (Stays new T at was good) (Lines new T at was good) (NoTurns new T at was good) line_of turn_of keeps_of turn_keeps was (numbers (op_values h [])) [] lined kept_number
       (λ x t v. value_among (op_values h []) x t (value_right x t rs (regions_values s []) v)) inside in
       let whole : copies_left_out h ≡ h = none_left_out h (no_function_copy k.name (and_first (is_function_name k.name) _ e), pub_formed_regions (numbers (op_values h [])) s formed_inside) in
       let same : g ≡ h = sym (is_converted new f g conv_is) ∙ ap copies_left_out (no_frame new f (is_illegal_at (of_shape T f) (partial_target illegal [] k.name)) (not_demanded illegal (of_shape T f) (funcs k.name (and_first (is_function_name k.name) _ e)))) ∙ whole in
       let once : DefinesOnce h = subst DefinesOnce same once_g in
       let agree : (x : ℕ) → has x was ≡ true → types_of h x ≡ T x = λ x a. type_once (op_values h []) x (T x) (once_defined h once) (kept x (T x) (type_of_value (op_values f []) x a)) in
       subst (Kept c f) (sym same) (record {
-        formed = lined_formed (IsOld new) (Lines new T at was good) (NoTurns new T at was good) line_of turn_of keeps_of turn_keeps k rs os ls lined once e;
+        formed = lined_formed (IsOld new) (Stays new T at was good) (Lines new T at was good) (NoTurns new T at was good) line_of turn_of keeps_of turn_keeps k rs os ls lined once e;
         parts = record {
-          tests = lined_tests (IsOld new) T (types_of h) (Lines new T at was good) (NoTurns new T at was good) line_of keeps_of (λ n o l x. x.0.fits) (λ n o l t x. x) c k rs os ls was lined agree
+          tests = lined_tests (IsOld new) T (types_of h) (Stays new T at was good) (Lines new T at was good) (NoTurns new T at was good) line_of keeps_of (λ n o l x. x.0.fits) (λ n o l t x. x) c k rs os ls was lined agree
               (λ x t v. type_once (op_values h []) x t (once_defined h once) (value_right x t rs (regions_values s []) v)) own inside parts.tests;
-          scopes = lined_defined (IsOld new) (IsOldLabel new) (Lines new T at was good) (NoTurns new T at was good) line_of turn_of k rs os ls lined fresh.apart parts.scopes;
-          none_own = lined_own f (IsOld new) (IsOldLabel new) (λ n j. new.value n 0 j) at (Lines new T at was good) (NoTurns new T at was good) (λ n o l x. x.0.ranks) (λ n o l x. x.1) (λ n o l t x. absurd x) (λ n o l t x. absurd x)
+          scopes = lined_defined (IsOld new) (IsOldLabel new) (Stays new T at was good) (Lines new T at was good) (NoTurns new T at was good) line_of turn_of k rs os ls lined fresh.apart parts.scopes;
+          none_own = lined_own f (IsOld new) (IsOldLabel new) (λ n j. new.value n 0 j) at (Stays new T at was good) (Lines new T at was good) (NoTurns new T at was good) (λ n o l x. x.0.ranks) (λ n o l x. x.1) (λ n o l t x. absurd x) (λ n o l t x. absurd x)
               k rs os ls refl lined fresh.apart (λ v n j old is. new_apart new v n j old is) (new_unique new f fresh) parts.none_own;
         };
         declared_same = refl;

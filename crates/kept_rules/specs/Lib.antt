@@ -4,3 +4,4 @@ pub mod Fits
 pub mod Kept
 pub mod Promises
 pub mod Casts
+pub mod Branches

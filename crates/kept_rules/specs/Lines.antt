@@ -49,23 +49,23 @@ pub record Turn (Old : ℕ → Type 0) (o : Op) (l : List Op) (t : Op) : Type 0 
 mutual
   -- operations from number n on, of which each stays, with its regions so, or is replaced. G says which operations may
   -- stand for one of a number, H which, with what last one, for a terminator.
-  pub data LinedOps (G : ℕ → Op → List Op → Type 0) (H : ℕ → Op → List Op → Op → Type 0) : ℕ → Ops → Ops → Type 0 where
-    lined_end : {n : ℕ} → LinedOps G H n end_of_ops end_of_ops
+  pub data LinedOps (K : ℕ → Op → Type 0) (G : ℕ → Op → List Op → Type 0) (H : ℕ → Op → List Op → Op → Type 0) : ℕ → Ops → Ops → Type 0 where
+    lined_end : {n : ℕ} → LinedOps K G H n end_of_ops end_of_ops
     stays : {n : ℕ} {k : Kind} {rs : Values} {os ls : List ℕ} {r s : Regions} {rest more : Ops}
-        → LinedRegions G H (n + 1) r s → LinedOps G H (n + op_size (op k rs os r ls)) rest more
-        → LinedOps G H n (more_ops (op k rs os r ls) rest) (more_ops (op k rs os s ls) more)
-    swaps : {n : ℕ} {o : Op} (l : List Op) {rest more : Ops} → G n o l → LinedOps G H (n + op_size o) rest more → LinedOps G H n (more_ops o rest) (put_ops l more)
-    turns : {n : ℕ} {o : Op} (l : List Op) (t : Op) {rest more : Ops} → H n o l t → LinedOps G H (n + op_size o) rest more
-        → LinedOps G H n (more_ops o rest) (put_ops l (more_ops t more))
+        → K n (op k rs os r ls) → LinedRegions K G H (n + 1) r s → LinedOps K G H (n + op_size (op k rs os r ls)) rest more
+        → LinedOps K G H n (more_ops (op k rs os r ls) rest) (more_ops (op k rs os s ls) more)
+    swaps : {n : ℕ} {o : Op} (l : List Op) {rest more : Ops} → G n o l → LinedOps K G H (n + op_size o) rest more → LinedOps K G H n (more_ops o rest) (put_ops l more)
+    turns : {n : ℕ} {o : Op} (l : List Op) (t : Op) {rest more : Ops} → H n o l t → LinedOps K G H (n + op_size o) rest more
+        → LinedOps K G H n (more_ops o rest) (put_ops l (more_ops t more))
 
-  pub data LinedRegions (G : ℕ → Op → List Op → Type 0) (H : ℕ → Op → List Op → Op → Type 0) : ℕ → Regions → Regions → Type 0 where
-    lined_no_region : {n : ℕ} → LinedRegions G H n end_of_regions end_of_regions
-    lined_region : {n : ℕ} {b c : Blocks} {r s : Regions} → LinedBlocks G H n b c → LinedRegions G H (n + blocks_size b) r s → LinedRegions G H n (region b r) (region c s)
+  pub data LinedRegions (K : ℕ → Op → Type 0) (G : ℕ → Op → List Op → Type 0) (H : ℕ → Op → List Op → Op → Type 0) : ℕ → Regions → Regions → Type 0 where
+    lined_no_region : {n : ℕ} → LinedRegions K G H n end_of_regions end_of_regions
+    lined_region : {n : ℕ} {b c : Blocks} {r s : Regions} → LinedBlocks K G H n b c → LinedRegions K G H (n + blocks_size b) r s → LinedRegions K G H n (region b r) (region c s)
 
-  pub data LinedBlocks (G : ℕ → Op → List Op → Type 0) (H : ℕ → Op → List Op → Op → Type 0) : ℕ → Blocks → Blocks → Type 0 where
-    lined_no_block : {n : ℕ} → LinedBlocks G H n end_of_blocks end_of_blocks
+  pub data LinedBlocks (K : ℕ → Op → Type 0) (G : ℕ → Op → List Op → Type 0) (H : ℕ → Op → List Op → Op → Type 0) : ℕ → Blocks → Blocks → Type 0 where
+    lined_no_block : {n : ℕ} → LinedBlocks K G H n end_of_blocks end_of_blocks
     lined_block : {n l : ℕ} {args : Values} {ops qs : Ops} {b c : Blocks}
-        → LinedOps G H n ops qs → LinedBlocks G H (n + ops_size ops) b c → LinedBlocks G H n (block l args ops b) (block l args qs c)
+        → LinedOps K G H n ops qs → LinedBlocks K G H (n + ops_size ops) b c → LinedBlocks K G H n (block l args ops b) (block l args qs c)
 
 -- the values of a line, by their places
 pub record Below (value : ℕ → ℕ) (k x : ℕ) : Type 0 where
@@ -100,10 +100,10 @@ pub record TurnRanks (value : ℕ → ℕ) (o : Op) (l : List Op) (t : Op) : Typ
 
 -- what stands for an operation of a number: itself with its regions as they became, operations one after another, or such
 -- with a terminator as the last
-pub data Put (G : ℕ → Op → List Op → Type 0) (H : ℕ → Op → List Op → Op → Type 0) (n : ℕ) (source kept : Op) : List Op → Type 0 where
-  put_itself : Put G H n source kept (kept ∷ [])
-  put_line : (l : List Op) → G n source l → Put G H n source kept l
-  put_turn : (l : List Op) (t : Op) → H n source l t → Put G H n source kept (l ++ t ∷ [])
+pub data Put (K : ℕ → Op → Type 0) (G : ℕ → Op → List Op → Type 0) (H : ℕ → Op → List Op → Op → Type 0) (n : ℕ) (source kept : Op) : List Op → Type 0 where
+  put_itself : K n source → Put K G H n source kept (kept ∷ [])
+  put_line : (l : List Op) → G n source l → Put K G H n source kept l
+  put_turn : (l : List Op) (t : Op) → H n source l t → Put K G H n source kept (l ++ t ∷ [])
 
 -- a number with its type is among values
 abbrev pub HasValue : ℕ → PlainType → Values → Type 0

@@ -30,7 +30,7 @@ not_true false is = refl
 -- Lists
 
 -- what numbers count for, in all
-abbrev total : (ℕ → ℕ) → List ℕ → ℕ
+abbrev pub total : (ℕ → ℕ) → List ℕ → ℕ
 total f [] = 0
 total f (n ∷ ns) = f n + total f ns
 
@@ -38,7 +38,7 @@ total_joined : (f : ℕ → ℕ) (ms ns : List ℕ) → total f (ms ++ ns) ≡ t
 total_joined f [] ns = omega arith
 total_joined f (m ∷ ms) ns = omega (arith, total_joined f ms ns)
 
-none_counted : (v : ℕ) (ns : List ℕ) → has v ns ≡ false → total (hits v) ns ≡ 0
+pub none_counted : (v : ℕ) (ns : List ℕ) → has v ns ≡ false → total (hits v) ns ≡ 0
 none_counted v [] h = refl
 none_counted v (n ∷ ns) h = let r = has_rest n v ns h in ap (λ b. (if b then 1 else 0) + total (hits v) ns) r.0 ∙ omega (arith, none_counted v ns r.1)
 
@@ -50,7 +50,7 @@ once_counted v (n ∷ ns) h = go (n == v) refl (once_counted v ns (and_right (no
     go true is less = omega (arith, none_counted v ns (ap (λ k. has k ns) (sym (eqb-true n v is)) ∙ not_true (has n ns) (and_left (not (has n ns)) (are_once ns) h)))
     go false is less = omega (arith, less)
 
-some_counted : (v : ℕ) (ns : List ℕ) → has v ns ≡ true → 1 ≤ total (hits v) ns
+pub some_counted : (v : ℕ) (ns : List ℕ) → has v ns ≡ true → 1 ≤ total (hits v) ns
 some_counted v [] h = absurd (true≢false (sym h))
 some_counted v (n ∷ ns) h = go (n == v) refl (some_counted v ns)
   where
@@ -80,14 +80,14 @@ values_joined f [] ws = omega arith
 values_joined f (v ∷ vs) ws = omega (arith, values_joined f vs ws)
 
 mutual
-  op_counted : (f : ℕ → ℕ) (o : Op) (more : Values) → total f (numbers_in (op_values o more)) ≡ op_total f none o + total f (numbers_in more)
+  pub op_counted : (f : ℕ → ℕ) (o : Op) (more : Values) → total f (numbers_in (op_values o more)) ≡ op_total f none o + total f (numbers_in more)
   op_counted f (op k rs os regions ls) more = omega (arith, values_joined f rs (regions_values regions more), regions_counted f regions more)
 
-  ops_counted : (f : ℕ → ℕ) (os : Ops) (more : Values) → total f (numbers_in (ops_values os more)) ≡ ops_total f none os + total f (numbers_in more)
+  pub ops_counted : (f : ℕ → ℕ) (os : Ops) (more : Values) → total f (numbers_in (ops_values os more)) ≡ ops_total f none os + total f (numbers_in more)
   ops_counted f end_of_ops more = omega arith
   ops_counted f (more_ops o os) more = omega (arith, op_counted f o (ops_values os more), ops_counted f os more)
 
-  regions_counted : (f : ℕ → ℕ) (rs : Regions) (more : Values) → total f (numbers_in (regions_values rs more)) ≡ regions_total f none rs + total f (numbers_in more)
+  pub regions_counted : (f : ℕ → ℕ) (rs : Regions) (more : Values) → total f (numbers_in (regions_values rs more)) ≡ regions_total f none rs + total f (numbers_in more)
   regions_counted f end_of_regions more = omega arith
   regions_counted f (region blocks rest) more = omega (arith, blocks_counted f blocks (regions_values rest more), regions_counted f rest more)
 

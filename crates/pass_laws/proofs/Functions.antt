@@ -41,7 +41,7 @@ use Rattle.pass_laws.proofs.Sources.{has_right, numbers_are, regions_formed, reg
 
 -- Functions from trees
 
-first_same : {P : ℕ → Type 0} {r r' : code.Regions} → SameRegions P r r' → SameEntry P (first_region r) (first_region r')
+pub first_same : {P : ℕ → Type 0} {r r' : code.Regions} → SameRegions P r r' → SameEntry P (first_region r) (first_region r')
 first_same same_regions_end = same_entry_end
 first_same (same_region b more) = b
 
@@ -63,7 +63,7 @@ module _ (bits : ℕ) (body body' : code.Blocks) (old : ℕ → Type 0) (same : 
   by_name None t = more
   by_name (Some name) t = by_type name t
 
-  with_changed : (props : Entries) → FunctionsChanged (put_function (function_with bits props body) fs) (put_function (function_with bits props body') fs')
+  pub with_changed : (props : Entries) → FunctionsChanged (put_function (function_with bits props body) fs) (put_function (function_with bits props body') fs')
   with_changed props = by_name (text_of _ props) (type_of _ props)
 
 pub put_stays : (o : Option Function) (fs fs' : List Function) → FunctionsChanged fs fs' → FunctionsChanged (put_function o fs) (put_function o fs')
@@ -127,7 +127,7 @@ module _ (p : Pass) (bits : ℕ) (mode : p.mode ≡ Partial) (straight : Straigh
     ok : RegionsOk p bits new ty (IsOld new) Defined 1 regions
     ok =
         (regions_ok p bits new rows_sound rows_plain legal_bare f ty defined regions 1 [] fresh.apart.2 formed (values_apart rs (regions_values regions []) (values_distinct f f_once)).1
-        (op_fit c f ty f None end_of_blocks [] end_of_ops [] sound).0.2
+        (op_fit c f ty f None end_of_blocks [] end_of_ops [] sound).0.3
         (λ v u h. has_right u (if has v (numbers rs) then os ++ regions_operands regions else []) (regions_used v regions) h)).0
 
     bare : OpBare f

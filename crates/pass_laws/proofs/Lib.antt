@@ -4,3 +4,4 @@ pub mod Sources
 pub mod Functions
 pub mod PlainRows
 pub mod Meaning
+pub mod UnusedCasts

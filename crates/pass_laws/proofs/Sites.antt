@@ -1,9 +1,11 @@
 -- What the rules say of each operation of a function.
 use Rattle.std.proofs.Common.{◌≡◌, ◌⊎◌, inl, inr, ℕ, ◌+◌, ◌==◌, Bool, true, false, List, [], ◌∷◌, ◌++◌, Option, Some, map, refl, sym, ap, ◌∙◌, subst, true≢false}
-use Rattle.std.specs.Prelude.{◌||◌}
+use Rattle.std.specs.Prelude.{◌||◌, codes}
 use Rattle.std.proofs.lemmas.Bool.{eqb-true}
 use Rattle.plain_tree.specs.Types.{PlainType}
 use Rattle.plain_tree.specs.Ops.{Op, op, Ops, end_of_ops, more_ops, Regions, end_of_regions, region, Blocks, end_of_blocks, block, Values}
+use Rattle.std.proofs.lemmas.Slice.Eq.{bytes_eq-Decides}
+use Rattle.conversion_model.specs.Reconciled.{is_cast}
 use Rattle.conversion_model.specs.Targets.{shape_of}
 use Rattle.rule_model.specs.declared.rules.Rule.TheVariants as rule
 use Rattle.rule_model.specs.Words.{AllOf, AnyOf, has, numbers, results_of, types}
@@ -11,7 +13,7 @@ use Rattle.rule_model.specs.declared.shapes.Shape.{Shape as RuleShape}
 use Rattle.rule_model.specs.Facts.{Facts, Functions, Holder, facts_of, is_end, regions_heads, target}
 use Rattle.rule_model.specs.Rows.{shape_of as rule_shape}
 use Rattle.rule_model.specs.Types.{operands_fit, results_fit}
-use Rattle.rule_model.specs.Parts.{attributes_fit}
+use Rattle.rule_model.specs.Parts.{attributes_fit, no_regions, regions_fit}
 use Rattle.rule_model.specs.Chains.{Chain}
 use Rattle.rule_model.specs.Paths.{Frame}
 use Rattle.rule_model.specs.Sites.{Around, Site, frame_of, holds, op_sites, ops_sites, regions_sites, blocks_sites}
@@ -22,7 +24,7 @@ use Rattle.sound_model.specs.Soundness.{IsFit, facts_with}
 abbrev mutual
   pub OpFit : Op → (ℕ → PlainType) → Op → Type 0
   OpFit f ty (op k results operands regions successors) =
-      IsFit (shape_of ty (op k results operands regions successors)) × ((r : ℕ) → has r (numbers results) ≡ true → Chain f r r → ⊥) × RegionsFit f ty regions
+      IsFit (shape_of ty (op k results operands regions successors)) × ((r : ℕ) → has r (numbers results) ≡ true → Chain f r r → ⊥) × (is_cast (op k results operands regions successors) ≡ true → regions ≡ end_of_regions) × RegionsFit f ty regions
 
   pub OpsFit : Op → (ℕ → PlainType) → Ops → Type 0
   OpsFit f ty end_of_ops = Unit {0}
@@ -52,12 +54,16 @@ any_of P (m ∷ ns) n h p = go (m == n) refl (any_of P ns n)
     go true is again = inl (subst P (sym (eqb-true m n is)) p)
     go false is again = inr (again (sym (ap (λ c. c || has n ns) is) ∙ h) p)
 
+no_heads : (regions : Regions) → no_regions (regions_heads regions) ≡ true → regions ≡ end_of_regions
+no_heads end_of_regions h = refl
+no_heads (region blocks more) h = absurd (true≢false (sym h))
+
 module _ (c : Functions) (f : Op) (ty : ℕ → PlainType) where
   site_fit : (k : _) (rs : Values) (os : List ℕ) (regions : Regions) (ls : List ℕ) (holder : Option Holder) (blocks : Blocks) (frames : List Frame) (rest : Ops)
       → Sound c f (record { facts = facts_of ty holder blocks rest (op k rs os regions ls); operands = os; results = numbers rs; frames = frames })
-      → IsFit (shape_of ty (op k rs os regions ls)) × ((r : ℕ) → has r (numbers rs) ≡ true → Chain f r r → ⊥)
+      → IsFit (shape_of ty (op k rs os regions ls)) × ((r : ℕ) → has r (numbers rs) ≡ true → Chain f r r → ⊥) × (is_cast (op k rs os regions ls) ≡ true → regions ≡ end_of_regions)
   unfolding Sound
-  site_fit k rs os regions ls holder blocks frames rest sound = (fit, λ r among chain. sound rule.OwnUse (any_of (λ v. Chain f v v) (numbers rs) r among chain))
+  site_fit k rs os regions ls holder blocks frames rest sound = (fit, λ r among chain. sound rule.OwnUse (any_of (λ v. Chain f v v) (numbers rs) r among chain), bare)
     where
       kept : (keeps : Facts → RuleShape → Bool) → if_registered (keeps (facts_of ty holder blocks rest (op k rs os regions ls))) (rule_shape k.name) ≡ true
           → if_registered (keeps (facts_with (shape_of ty (op k rs os regions ls)) (map (target blocks) ls) (regions_heads regions) holder (is_end rest))) (rule_shape k.name) ≡ true
@@ -72,6 +78,11 @@ module _ (c : Functions) (f : Op) (ty : ℕ → PlainType) where
             holder = holder;
             last = is_end rest;
           })) (rule_shape k.name) ≡ true) (types_are rs) is
+
+      bare : is_cast (op k rs os regions ls) ≡ true → regions ≡ end_of_regions
+      bare cast =
+          no_heads regions (subst (λ n. if_registered (regions_fit (facts_of ty holder blocks rest (op k rs os regions ls))) (rule_shape n) ≡ true) ((bytes_eq-Decides k.name (codes "builtin.unrealized_conversion_cast")).0 cast)
+          (not_false _ (sound rule.Regions)))
 
       fit : IsFit (shape_of ty (op k rs os regions ls))
       fit = record {
@@ -88,7 +99,7 @@ module _ (c : Functions) (f : Op) (ty : ℕ → PlainType) where
     pub op_fit : (o : Op) (holder : Option Holder) (blocks : Blocks) (frames : List Frame) (rest : Ops) (more : List Site) → AllOf (Sound c f) (op_sites ty holder blocks frames rest o more) → OpFit f ty o × AllOf (Sound c f) more
     op_fit (op k rs os regions ls) holder blocks frames rest more all =
         let a = site_fit k rs os regions ls holder blocks frames rest all.0 in
-        let b = regions_fit regions (holds ty (op k rs os regions ls)) 0 frames more all.1 in ((a.0, a.1, b.0), b.1)
+        let b = all_regions_fit regions (holds ty (op k rs os regions ls)) 0 frames more all.1 in ((a.0, a.1, a.2, b.0), b.1)
 
     ops_fit : (os : Ops) (a : Around) (label : ℕ) (bound : List ℕ) (more : List Site) → AllOf (Sound c f) (ops_sites ty a label bound os more) → OpsFit f ty os × AllOf (Sound c f) more
     ops_fit end_of_ops a label bound more all = (tt, all)
@@ -96,11 +107,11 @@ module _ (c : Functions) (f : Op) (ty : ℕ → PlainType) where
         let x = op_fit o a.holder a.blocks (frame_of a label bound (more_ops o os)) os (ops_sites ty a label (results_of o ++ bound) os more) all in
         let y = ops_fit os a label (results_of o ++ bound) more x.1 in ((x.0, y.0), y.1)
 
-    regions_fit : (rs : Regions) (holder : ℕ → Holder) (n : ℕ) (frames : List Frame) (more : List Site) → AllOf (Sound c f) (regions_sites ty holder n frames rs more) → RegionsFit f ty rs × AllOf (Sound c f) more
-    regions_fit end_of_regions holder n frames more all = (tt, all)
-    regions_fit (region blocks rest) holder n frames more all =
+    all_regions_fit : (rs : Regions) (holder : ℕ → Holder) (n : ℕ) (frames : List Frame) (more : List Site) → AllOf (Sound c f) (regions_sites ty holder n frames rs more) → RegionsFit f ty rs × AllOf (Sound c f) more
+    all_regions_fit end_of_regions holder n frames more all = (tt, all)
+    all_regions_fit (region blocks rest) holder n frames more all =
         let x = blocks_fit blocks (record { holder = Some (holder n); blocks = blocks; outer = frames }) (regions_sites ty holder (n + 1) frames rest more) all in
-        let y = regions_fit rest holder (n + 1) frames more x.1 in ((x.0, y.0), y.1)
+        let y = all_regions_fit rest holder (n + 1) frames more x.1 in ((x.0, y.0), y.1)
 
     blocks_fit : (bs : Blocks) (a : Around) (more : List Site) → AllOf (Sound c f) (blocks_sites ty a bs more) → BlocksFit f ty bs × AllOf (Sound c f) more
     blocks_fit end_of_blocks a more all = (tt, all)

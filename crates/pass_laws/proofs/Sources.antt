@@ -1,6 +1,6 @@
 -- What is asked of the source of a conversion holds of a function of a verified module.
 use Rattle.std.proofs.Common.{◌≡◌, ℕ, ◌+◌, ◌==◌, ◌≤◌, Bool, true, false, List, [], ◌∷◌, ◌++◌, Some, length, refl, sym, ap, ◌∙◌, subst, arith, true≢false}
-use Rattle.std.specs.Prelude.{nat_lt, codes, bytes_eq, not, ◌||◌, if◌then◌else◌}
+use Rattle.std.specs.Prelude.{nat_lt, bytes_eq, ◌||◌, if◌then◌else◌}
 use Rattle.std.specs.List.{list_all}
 use Rattle.std.proofs.lemmas.Slice.Eq.{bytes_eq-Decides}
 use Rattle.plain_tree.specs.Types.{PlainType}
@@ -14,7 +14,7 @@ use Rattle.conversion_model.specs.Conversion.{Pass, Supply}
 use Rattle.conversion_model.specs.Fresh.{EachBlock, EachOf, EachOp, EachOps, EachRegion, EachValue, IsOld, IsOldLabel}
 use Rattle.rule_model.specs.Words.{has, numbers}
 use Rattle.rule_model.specs.Chains.{uses, op_used, ops_used, regions_used, blocks_used, regions_operands}
-use Rattle.rule_model.specs.Formed.{are_formed_blocks, are_formed_ops, are_formed_regions, are_formed_values, is_formed_here, is_formed_op, is_function_name, is_inner_name, own_labels}
+use Rattle.rule_model.specs.Formed.{are_formed_blocks, are_formed_ops, are_formed_regions, are_formed_values, is_formed_here, is_formed_op, is_inner_name, own_labels}
 use Rattle.sound_model.specs.Soundness.{RowsSound}
 use Rattle.chosen_laws.proofs.ChosenLaws.{chosen_sound}
 use Rattle.chosen_laws.proofs.Derivations.{mapped_count}
@@ -162,7 +162,7 @@ module _ (p : Pass) (bits : ℕ) (new : Supply) (rows_sound : RowsSound bits p.t
     op_is_ok (op k rs os regions ls) n labels more old formed distinct fit within =
         let rest = and_right (is_inner_name k.name) _ formed in
         let d = values_apart rs (regions_values regions more) distinct in
-        let b = regions_ok regions (n + 1) more old.2 (and_right (is_formed_here defined labels k rs os ls) _ rest) d.1 fit.2 (λ v u h. within v u (has_right u _ (regions_used v regions) h)) in
+        let b = regions_ok regions (n + 1) more old.2 (and_right (is_formed_here defined labels k rs os ls) _ rest) d.1 fit.3 (λ v u h. within v u (has_right u _ (regions_used v regions) h)) in
         ((op_ok n k rs os regions ls labels old.0 old.1 (and_left (is_formed_here defined labels k rs os ls) _ rest) d.0 fit within, b.0), b.1)
 
     pub regions_ok : (rs : Regions) (n : ℕ) (more : Values) → EachRegion (IsOld new) (IsOldLabel new) rs → are_formed_regions defined rs ≡ true → Distinct (numbers_in (regions_values rs more)) → RegionsFit f ty rs

@@ -4,6 +4,7 @@ use Rattle.pipeline_text.specs.declared.pass.PassName.{PassName}
 use Rattle.plain_tree.specs.Ops.{Op, PlainModule}
 use Rattle.conversion_model.specs.Targets.{Partial}
 use Rattle.conversion_model.specs.Conversion.{Pass, Supply, conv}
+use Rattle.conversion_model.specs.Reconciled.{unused_left_out}
 use Rattle.conversion_model.specs.Fresh.{Fresh}
 use Rattle.pattern_model.specs.PassTable.{pass_tree}
 use Rattle.rule_model.specs.Rules.{Verified}
@@ -37,3 +38,13 @@ ConversionsKeep = (p : Pass) (bits : ℕ) → p.mode ≡ Partial → StraightTab
 -- replaced by the pass's tree agree.
 abbrev pub KeepsMeaning : PassName → Type 0
 KeepsMeaning pass = (bits : ℕ) → (bits ≡ 32) ⊎ (bits ≡ 64) → (m : PlainModule) (funcs : List Op) → Verified m → Passed pass bits m.funcs funcs → AgreesS bits m (with_functions m funcs)
+
+-- functions of which each stays, or has lost casts without uses in so many rounds at most
+pub data UnusedLeftOut : List Op → List Op → Type 0 where
+  none_left : UnusedLeftOut [] []
+  as_it_is : {f : Op} {fs gs : List Op} → UnusedLeftOut fs gs → UnusedLeftOut (f ∷ fs) (f ∷ gs)
+  without_casts : {f : Op} {fs gs : List Op} (room : ℕ) → UnusedLeftOut fs gs → UnusedLeftOut (f ∷ fs) (unused_left_out room f ∷ gs)
+
+-- casts without uses may be left out of any functions of a verified module, whatever their numbers of operands and results
+abbrev pub UnusedCastsKeep : Type 0
+UnusedCastsKeep = (bits : ℕ) (m : PlainModule) (funcs : List Op) → Verified m → UnusedLeftOut m.funcs funcs → AgreesS bits m (with_functions m funcs)

@@ -1,7 +1,7 @@
 //! Laws of passes, each the contract of a function that does nothing.
 
 ghost use Rattle.pipeline_text.specs.declared.pass.PassName.TheVariants.{ArithExpand, ConvertArithToLlvm, ConvertCfToLlvm};
-ghost use Rattle.pass_laws.specs.Promises.{ConversionsKeep, KeepsMeaning};
+ghost use Rattle.pass_laws.specs.Promises.{ConversionsKeep, KeepsMeaning, UnusedCastsKeep};
 
 /// By any table of sound straight rows that leave no copy, any functions of a verified module may be converted: the module keeps
 /// its results, its traces and its endless runs.
@@ -22,4 +22,9 @@ pub fn law_arith()
 /// So does what convert-cf-to-llvm makes of them, block arguments with the branches to them.
 pub fn law_cf()
     ensures { KeepsMeaning ConvertCfToLlvm }
+{}
+
+/// Casts without uses may be left out of any functions of a verified module: it keeps its results, its traces and its endless runs.
+pub fn law_unused_casts()
+    ensures { UnusedCastsKeep }
 {}

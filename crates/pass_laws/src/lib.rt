@@ -3,4 +3,4 @@
 
 mod laws;
 
-pub use laws::{law_arith, law_cf, law_conversion, law_expand};
+pub use laws::{law_arith, law_cf, law_conversion, law_expand, law_unused_casts};

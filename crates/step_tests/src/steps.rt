@@ -1,5 +1,6 @@
 //! Tables and doings.
 
+use call_code::{gathered, unpacked};
 use doing_code::{Doing, doing_of};
 use number_code::{Binary, Flags};
 use round_code::{answered, numbers, signed_numbers};
@@ -92,5 +93,32 @@ fn answers_end_with_zeros(rt: HostRuntime) -> Result<(), Fail> {
     assert_eq!(rt; zs.as_slice(), [-1, 0].as_slice());
     let values = integers(alloc, &[1, 2])?;
     assert!(rt; matches!(numbers(alloc, values.as_slice())?, Looked::Gives(_)));
+    Ok(())
+}
+
+#[test]
+fn a_descriptor_is_gathered_from_its_fields(rt: HostRuntime) -> Result<(), Fail> {
+    let alloc = rt.alloc();
+    let values = integers(alloc, &[9, 1, 2, 3, 4, 5])?;
+    let gathered = gathered(alloc, &[None, Some(1)], values.as_slice())?;
+    assert_eq!(rt; gathered.map(|args| args.len()), Some(2));
+    Ok(())
+}
+
+#[test]
+fn too_few_fields_are_no_descriptor(rt: HostRuntime) -> Result<(), Fail> {
+    let alloc = rt.alloc();
+    let values = integers(alloc, &[1, 2, 3, 4])?;
+    assert!(rt; gathered(alloc, &[Some(1)], values.as_slice())?.is_none());
+    Ok(())
+}
+
+#[test]
+fn results_are_unpacked(rt: HostRuntime) -> Result<(), Fail> {
+    let alloc = rt.alloc();
+    let mut returned = Items::new(alloc);
+    returned.push(Value::Aggregate(integers(alloc, &[1, 2])?))?;
+    let results = unpacked(alloc, Packing::Together, returned.as_slice())?;
+    assert_eq!(rt; results.map(|all| all.len()), Some(2));
     Ok(())
 }

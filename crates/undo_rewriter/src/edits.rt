@@ -1,7 +1,9 @@
 //! Edits. Each answers Ok and has its effect, or want of memory and has none.
 
-ghost use Rattle.std.specs.Prelude.{◌≡◌, ◌+◌, ◌<◌, ◌≤◌, ◌++◌, length, insert, remove, IfOk, OnOk, OnErr};
+ghost use Rattle.std.specs.Prelude.{◌≡◌, ℕ, ◌+◌, ◌<◌, ◌≤◌, [], ◌++◌, length, insert, remove, IfOk, OnOk, OnErr};
 ghost use Rattle.flat_model.specs.Flat.{IsOpWithin, op_at, block_at};
+ghost use Rattle.edit_model.specs.HandleTree.{front_of, op_of, regions_end, tree};
+ghost use Rattle.edit_model.specs.Effects.{op_edited, operand_set, op_inserted, op_erased};
 ghost use Rattle.edit_model.specs.Writes.{with_op, with_operand, with_ops};
 ghost use Rattle.edit_model.specs.Journal.{IsBack, KeepsMarks};
 
@@ -18,6 +20,7 @@ impl Rewriter {
         requires at { at < length (op_at self.old.now op).operands }
         requires value { value < length self.old.now.types }
         ensures nodes { OnOk result (self.new.now ≡ with_operand self.old.now op at value) }
+        ensures tree { OnOk result ((n i : ℕ) → i < length self.old.now.ops → op_edited (operand_set op at value) (tree n self.old.now i) ≡ tree n self.new.now i) }
         ensures kept { KeepsMarks self.old self.new }
         ensures err { OnErr result (IsBack self.old self.new) }
     {
@@ -54,8 +57,10 @@ impl Rewriter {
         requires block { block < length self.old.now.blocks }
         requires at { at ≤ length (block_at self.old.now block).ops }
         requires node { IsOpWithin (length self.old.now.types + length types.now) (length self.old.now.blocks) (record self.old.now { types = self.old.now.types ++ types.now }) node }
+        requires leaf { node.regions ≡ [] }
         ensures op { IfOk result (λ op. op ≡ length self.old.now.ops) }
         ensures nodes { OnOk result (self.new.now ≡ with_ops (with_op self.old.now node types.now) block (insert (block_at self.old.now block).ops at (length self.old.now.ops))) }
+        ensures tree { OnOk result ((n i : ℕ) → i < length self.old.now.ops → op_edited (op_inserted block at (op_of (front_of self.new.now (length self.old.now.ops) node) regions_end)) (tree n self.old.now i) ≡ tree n self.new.now i) }
         ensures kept { KeepsMarks self.old self.new }
         ensures err { OnErr result (IsBack self.old self.new) }
     {
@@ -95,6 +100,7 @@ impl Rewriter {
         requires block { block < length self.old.now.blocks }
         requires at { at < length (block_at self.old.now block).ops }
         ensures nodes { OnOk result (self.new.now ≡ with_ops self.old.now block (remove (block_at self.old.now block).ops at)) }
+        ensures tree { OnOk result ((n i : ℕ) → i < length self.old.now.ops → op_edited (op_erased block at) (tree n self.old.now i) ≡ tree n self.new.now i) }
         ensures kept { KeepsMarks self.old self.new }
         ensures err { OnErr result (IsBack self.old self.new) }
     {

@@ -1,6 +1,7 @@
 //! Marks, and the way back to one.
 
 ghost use Rattle.std.specs.Prelude.{◌≡◌, ℕ, ◌<◌, ◌≤◌, [], length, take, drop};
+ghost use Rattle.flat_model.specs.Flat.{IsClosed};
 ghost use Rattle.edit_model.specs.Journal.{at_mark, edits};
 
 use crate::rewriter::{Mark, Rewriter};
@@ -38,7 +39,9 @@ impl Rewriter {
     pub fn checkpoint(&self) -> Mark
         ensures mark { result ≡ length self.now.journal }
         ensures now { at_mark self.now.journal self.now.now result ≡ self.now.now }
+        ensures closed { IsClosed self.now.now }
     {
+        self.func.closed();
         self.journal.len()
     }
 

@@ -1,0 +1,7 @@
+use Rattle.std.proofs.Common.{arith}
+use Rattle.std.proofs.lemmas.Grind.{common_steps}
+use Rattle.edit_model.proofs.EffectLaws.{operand_effect, inserted_effect, erased_effect}
+use Rattle.undo_rewriter.proofs.rewriter.Rewriter.insert_op.Goals as goal
+
+pub returns-in-Ok-clause-tree : goal.returns-in-Ok-clause-tree
+returns-in-Ok-clause-tree c = inserted_effect c.args.self.now.now _ c.args.block c.args.at c.args.node c.args.types.now (grind (arith, common_steps)) c.checkpoint-start.ensures.closed c.requires.block c.requires.leaf
