@@ -1,14 +1,14 @@
 -- The template of a branch in converted types, written down.
-use Rattle.std.proofs.Common.{◌≡◌, ℕ, zero, suc, ◌+◌, ◌==◌, ◌<◌, ◌≤◌, Bool, true, false, List, [], ◌∷◌, ◌++◌, Option, Some, None, refl, sym, ap, ◌∙◌, subst, map, length, arith, inl, inr, true≢false}
+use Rattle.std.proofs.Common.{◌≡◌, ℕ, zero, suc, ◌+◌, List, [], ◌∷◌, ◌++◌, Option, Some, None, refl, sym, ap, ◌∙◌, map, length, arith}
 use Rattle.std.specs.Prelude.{get_or}
 use Rattle.plain_tree.specs.Types.{PlainType}
 use Rattle.plain_tree.specs.Attrs.{Entries}
-use Rattle.plain_tree.specs.Ops.{Kind, Op, op, end_of_regions}
+use Rattle.plain_tree.specs.Ops.{op, end_of_regions}
 use Rattle.conversion_model.specs.declared.templates.Source.{Source}
 use Rattle.conversion_model.specs.declared.templates.Source.TheVariants.{Operand, Made}
 use Rattle.conversion_model.specs.Types.{new_type}
 use Rattle.conversion_model.specs.Templates.{labels_at, number_of, Step, steps_written, Template, values_made, written}
-use Rattle.conversion_model.specs.Chosen.{and_then, cast, counted, Ending, here, itself, Leaves, moved_step, nothing_yet, placed, places, product, products, State, take_one, take_operands, type_here, with_moved, with_operand, with_step}
+use Rattle.conversion_model.specs.Chosen.{and_then, cast, counted, Ending, here, itself, Leaves, nothing_yet, placed, places, product, products, State, take_one, take_operands, type_here, with_moved, with_operand, with_step}
 use Rattle.conversion_model.specs.Conversion.{cast_op}
 use Rattle.kept_rules.specs.Branches.{branch, converted_operands, either_number, fronts, next, put_cast}
 

@@ -40,3 +40,5 @@ pub mod Reconciles
 pub mod Folds
 pub mod BranchTemplates
 pub mod BranchLines
+pub mod BlockScopes
+pub mod BlockUses

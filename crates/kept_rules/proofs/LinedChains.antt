@@ -40,7 +40,7 @@ bare_used v u (op k rs os r ls) bare h = elim (has_cases u (if has v (numbers rs
 pub result_uses : (v u : ℕ) (o : Op) → has v (results_of o) ≡ true → has u (operands_of o) ≡ true → has u (op_used v o) ≡ true
 result_uses v u (op k rs os r ls) e h = has_left u (if has v (numbers rs) then os ++ regions_operands r else []) (regions_used v r) (has_if u (has v (numbers rs)) (os ++ regions_operands r) e (has_left u os (regions_operands r) h))
 
-each_result : (P : ℕ → Type 0) (vs : Values) → EachValue P vs → AllOf P (numbers vs)
+pub each_result : (P : ℕ → Type 0) (vs : Values) → EachValue P vs → AllOf P (numbers vs)
 each_result P [] all = tt
 each_result P (v ∷ vs) all = (all.0, each_result P vs all.1)
 

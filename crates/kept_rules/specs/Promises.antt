@@ -9,7 +9,9 @@ use Rattle.pipeline_text.specs.declared.pass.Stage.TheVariants.{Whole, Each}
 use Rattle.plain_tree.specs.Ops.{Op, PlainModule}
 use Rattle.rule_model.specs.Words.{AllOf}
 use Rattle.rule_model.specs.Rules.{Verified}
-use Rattle.conversion_model.specs.Conversion.{Supply}
+use Rattle.rule_model.specs.Chains.{Chain}
+use Rattle.rule_model.specs.Scopes.{DefinedFunction}
+use Rattle.conversion_model.specs.Conversion.{op_blocks, Supply}
 use Rattle.conversion_model.specs.Fresh.{Fresh}
 use Rattle.pattern_model.specs.PassTable.{pass_tree}
 use Rattle.pattern_model.specs.Fold.{folded, stage_run, width}
@@ -75,3 +77,13 @@ FreshStages new bits n (s ∷ ss) funcs = FreshStage (new n) bits s funcs × Fre
 abbrev pub FoldKeepsVerified : Type 0
 FoldKeepsVerified = (new : ℕ → ℕ → ℕ → Supply) (p : Pipeline) (m : PlainModule) → IsWidth (width p.stages) → AllOf KeptStage p.stages → FreshStages new (width p.stages) 0 p.stages m.funcs → Verified m
     → Verified (folded new p m).module_behind
+
+-- Block arguments
+
+-- where the arguments of blocks get their converted types, with casts back from fresh numbers, rule `Defined` is kept, region by region
+abbrev pub BlocksKeepDefined : Type 0
+BlocksKeepDefined = (bits : ℕ) (new : Supply) (f : Op) → Fresh new f → DefinedFunction f → DefinedFunction (op_blocks bits new.argument f)
+
+-- and still no value uses itself
+abbrev pub BlocksKeepOwn : Type 0
+BlocksKeepOwn = (bits : ℕ) (new : Supply) (f : Op) → Fresh new f → ((v : ℕ) → Chain f v v → ⊥) → (v : ℕ) → Chain (op_blocks bits new.argument f) v v → ⊥

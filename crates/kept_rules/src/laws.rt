@@ -1,6 +1,13 @@
 //! Laws, each the contract of a function that does nothing.
 
-ghost use Rattle.kept_rules.specs.Promises.{ArithKeepsVerified, CastsKeepVerified, ExpandKeepsVerified, FoldKeepsVerified};
+ghost use Rattle.kept_rules.specs.Promises.{
+  ArithKeepsVerified,
+  BlocksKeepDefined,
+  BlocksKeepOwn,
+  CastsKeepVerified,
+  ExpandKeepsVerified,
+  FoldKeepsVerified,
+};
 
 /// A verified module with any of its functions replaced by what arith-expand, convert-arith-to-llvm or
 /// reconcile-unrealized-casts makes of it is verified.
@@ -13,4 +20,10 @@ pub fn law_verified()
 /// What a pipeline of these passes makes of a verified module is verified, also where a pass fails.
 pub fn law_fold_verified()
     ensures { FoldKeepsVerified }
+{}
+
+/// Where the arguments of blocks get their converted types, each use is still defined, and no value uses itself.
+pub fn law_block_arguments()
+    ensures defined { BlocksKeepDefined }
+    ensures own { BlocksKeepOwn }
 {}
