@@ -6,6 +6,8 @@ mod fixtures;
 #[cfg(test)]
 mod modules;
 #[cfg(test)]
+mod rewriting;
+#[cfg(test)]
 mod round_trips;
 #[cfg(test)]
 mod unnumbered;

@@ -5,6 +5,7 @@ use Rattle.std.specs.List.{list_all}
 use Rattle.std.proofs.Math.Nat.{mod-lt, two-pow-succ}
 use Rattle.std.proofs.Math.Pow.{pow_pos}
 use Rattle.std.proofs.lemmas.Bool.{le-leb, lt-ltb, leb-true, ltb-true, ltb-false}
+use Rattle.tree_model.specs.declared.type_tree.Dim.{Dim}
 use Rattle.plain_tree.specs.Types.{PlainType, Int, Index, Memref, Func, Ptr, Void, Struct, Array, LlvmFunc, same_type, types_in}
 use Rattle.plain_tree.specs.ValueTypes.{is_own, is_value}
 use Rattle.plain_tree.specs.Attrs.{Entries, PlainAttr, Number}
@@ -256,7 +257,7 @@ good_own t o = record { value = own_value t o.own; formed = o.formed }
 abbrev fields_by : ℕ → ℕ → Bool → List PlainType
 fields_by bits rank b = Ptr ∷ Ptr ∷ Int bits ∷ (if b then [] else Array rank (Int bits) ∷ Array rank (Int bits) ∷ [])
 
-fields_own : (bits rank : ℕ) (b : Bool) → Width bits → rank ≤ 8 → Own (Struct (types_in (fields_by bits rank b)))
+pub fields_own : (bits rank : ℕ) (b : Bool) → Width bits → rank ≤ 8 → Own (Struct (types_in (fields_by bits rank b)))
 fields_own bits rank true w small = record { own = refl; formed = two_true (is_formed_type (Int bits)) (number_formed bits w) }
 fields_own bits rank false w small =
     let short : nat_lt rank (2 ^ 32) ≡ true = lt-ltb rank (2 ^ 32) (omega (arith, small)) in
@@ -307,3 +308,7 @@ pub casts_fit : (bits : ℕ) (t : PlainType) → Width bits → Good t → Casts
 casts_fit bits t w g u e =
     let h : Good u = subst Good (ap (or_same t) e) (good_own (becomes bits t) (becomes_own bits t w g)) in
     (fit_cast t u g h, fit_cast u t h g)
+
+-- what a formed memref becomes is formed
+pub fields_formed : (bits : ℕ) (dims : List Dim) (element : PlainType) → Width bits → is_formed_type (Memref dims element) ≡ true → is_formed_type (becomes bits (Memref dims element)) ≡ true
+fields_formed bits dims element w e = (fields_own bits (length dims) (length dims == 0) w (leb-true (length dims) 8 (and_first (nat_le (length dims) 8) _ e))).formed

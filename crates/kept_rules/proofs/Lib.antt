@@ -42,3 +42,4 @@ pub mod BranchTemplates
 pub mod BranchLines
 pub mod BlockScopes
 pub mod BlockUses
+pub mod BlockFormed

@@ -1,5 +1,5 @@
 -- What the laws on verified modules promise.
-use Rattle.std.specs.Prelude.{◌≡◌, ◌⊎◌, ℕ, ◌+◌, List, [], ◌∷◌, Ok, ⊤}
+use Rattle.std.specs.Prelude.{◌≡◌, ◌⊎◌, ℕ, ◌+◌, true, List, [], ◌∷◌, Ok, ⊤}
 use Rattle.pipeline_text.specs.declared.pass.PassName.{PassName}
 use Rattle.pipeline_text.specs.declared.pass.PassName.TheVariants.{ArithExpand, ConvertArithToLlvm, ReconcileUnrealizedCasts}
 use Rattle.pipeline_text.specs.declared.pass.PassUse.{PassUse}
@@ -10,8 +10,10 @@ use Rattle.plain_tree.specs.Ops.{Op, PlainModule}
 use Rattle.rule_model.specs.Words.{AllOf}
 use Rattle.rule_model.specs.Rules.{Verified}
 use Rattle.rule_model.specs.Chains.{Chain}
+use Rattle.rule_model.specs.Formed.{is_formed_function}
 use Rattle.rule_model.specs.Scopes.{DefinedFunction}
 use Rattle.conversion_model.specs.Conversion.{op_blocks, Supply}
+use Rattle.conversion_model.specs.Counts.{DefinesOnce}
 use Rattle.conversion_model.specs.Fresh.{Fresh}
 use Rattle.pattern_model.specs.PassTable.{pass_tree}
 use Rattle.pattern_model.specs.Fold.{folded, stage_run, width}
@@ -87,3 +89,7 @@ BlocksKeepDefined = (bits : ℕ) (new : Supply) (f : Op) → Fresh new f → Def
 -- and still no value uses itself
 abbrev pub BlocksKeepOwn : Type 0
 BlocksKeepOwn = (bits : ℕ) (new : Supply) (f : Op) → Fresh new f → ((v : ℕ) → Chain f v v → ⊥) → (v : ℕ) → Chain (op_blocks bits new.argument f) v v → ⊥
+
+-- and a formed function stays formed, where each number is still defined once
+abbrev pub BlocksKeepFormed : Type 0
+BlocksKeepFormed = (bits : ℕ) (new : Supply) (f : Op) → IsWidth bits → DefinesOnce (op_blocks bits new.argument f) → is_formed_function f ≡ true → is_formed_function (op_blocks bits new.argument f) ≡ true

@@ -3,6 +3,7 @@
 ghost use Rattle.kept_rules.specs.Promises.{
   ArithKeepsVerified,
   BlocksKeepDefined,
+  BlocksKeepFormed,
   BlocksKeepOwn,
   CastsKeepVerified,
   ExpandKeepsVerified,
@@ -22,8 +23,10 @@ pub fn law_fold_verified()
     ensures { FoldKeepsVerified }
 {}
 
-/// Where the arguments of blocks get their converted types, each use is still defined, and no value uses itself.
+/// Where the arguments of blocks get their converted types, each use is still defined, no value
+/// uses itself, and a formed function stays formed.
 pub fn law_block_arguments()
     ensures defined { BlocksKeepDefined }
     ensures own { BlocksKeepOwn }
+    ensures formed { BlocksKeepFormed }
 {}
