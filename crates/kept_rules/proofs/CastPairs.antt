@@ -14,13 +14,13 @@ use Rattle.conversion_model.specs.Counts.{blocks_total, hits, none, op_total, op
 use Rattle.conversion_model.specs.Items.{blocks_size, op_size, ops_size}
 use Rattle.conversion_model.specs.Uses.{blocks_listed, op_listed, operations, ops_listed, regions_listed, types_of}
 use Rattle.conversion_model.specs.Reconciled.{Cast, cast_in, casts_in, first_pair, pair_of, pair_or, stands_for, undoes}
-use Rattle.kept_rules.specs.Lines.{HasValue}
+use Rattle.line_rules.specs.Lines.{HasValue}
 use Rattle.kept_rules.specs.Casts.{UsesFor, UsesForBlocks, UsesForOps, UsesForRegions}
-use Rattle.kept_rules.proofs.Words.{has_left, has_right, not_so}
+use Rattle.line_rules.proofs.Words.{has_left, has_right, not_so}
 use Rattle.kept_rules.proofs.CastScopes.{some_value}
-use Rattle.kept_rules.proofs.LinedChains.{has_if}
-use Rattle.kept_rules.proofs.LinedValues.{behind_blocks, behind_op, behind_ops}
-use Rattle.kept_rules.proofs.Once.{value_left, value_right}
+use Rattle.line_rules.proofs.LinedChains.{has_if}
+use Rattle.line_rules.proofs.LinedValues.{behind_blocks, behind_op, behind_ops}
+use Rattle.line_rules.proofs.Once.{value_left, value_right}
 
 -- a cast of v to r of type t is the operation
 abbrev pub CastHere : ℕ → ℕ → PlainType → Kind → Values → List ℕ → Type 0

@@ -10,9 +10,9 @@ use Rattle.rule_model.proofs.Numbers.{some_same}
 use Rattle.rule_model.proofs.ScopeLaws.{reached_without}
 use Rattle.conversion_model.specs.Counts.{blocks_total, hits, none, ops_total, regions_total, values_total}
 use Rattle.kept_rules.specs.Casts.{UsesFor, UsesForBlocks, UsesForOps}
-use Rattle.kept_rules.proofs.Words.{clash, not_so, or_cases}
-use Rattle.kept_rules.proofs.Once.{some_counted, values_counted}
-use Rattle.kept_rules.proofs.LinedScopes.{free_blocks}
+use Rattle.line_rules.proofs.Words.{clash, not_so, or_cases}
+use Rattle.line_rules.proofs.Once.{some_counted, values_counted}
+use Rattle.line_rules.proofs.LinedScopes.{free_blocks}
 
 -- Blocks that are found
 

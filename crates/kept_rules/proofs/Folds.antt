@@ -4,7 +4,7 @@ use Rattle.std.specs.Prelude.{Result, Ok, Err, if◌then◌else◌}
 use Rattle.std.specs.List.{list_all}
 use Rattle.std.specs.Str.{bytes_eq}
 use Rattle.pipeline_text.specs.declared.pass.PassName.{PassName}
-use Rattle.pipeline_text.specs.declared.pass.PassName.TheVariants.{ArithExpand, ConvertArithToLlvm, ReconcileUnrealizedCasts}
+use Rattle.pipeline_text.specs.declared.pass.PassName.TheVariants.{ArithExpand, ConvertArithToLlvm, ConvertCfToLlvm, ReconcileUnrealizedCasts}
 use Rattle.pipeline_text.specs.declared.pass.PassUse.{PassUse}
 use Rattle.pipeline_text.specs.declared.pass.Stage.{Stage}
 use Rattle.pipeline_text.specs.declared.pass.Stage.TheVariants.{Whole, Each}
@@ -19,11 +19,13 @@ use Rattle.conversion_model.specs.Targets.{name_of}
 use Rattle.pattern_model.specs.PassTable.{pass_tree}
 use Rattle.pattern_model.specs.ModuleStep.{module_step}
 use Rattle.pattern_model.specs.Fold.{anchor_name, Failure, functions_run, is_empty, passes_run, Ran, ran_on, stage_run, stages_run, Stood, whole_of, width}
-use Rattle.kept_rules.specs.Promises.{FoldKeepsVerified, FreshFunctions, FreshPasses, FreshStage, FreshStages, IsKept, IsWidth, KeptStage, with_funcs}
-use Rattle.kept_rules.proofs.KeptSites.{Parts, parts_of, sound_by}
+use Rattle.fitting_rows.specs.Widths.{IsWidth}
+use Rattle.kept_rules.specs.Promises.{FoldKeepsVerified, FreshFunctions, FreshPasses, FreshStage, FreshStages, IsKept, KeptStage, with_funcs}
+use Rattle.kept_rules.proofs.BranchPass.{cf_kept}
+use Rattle.line_rules.proofs.KeptSites.{Parts, parts_of, sound_by}
 use Rattle.kept_rules.proofs.Modules.{FunctionKept, Kept, one_more, same_functions}
 use Rattle.kept_rules.proofs.Reconciles.{casts_kept, then_kept}
-use Rattle.kept_rules.proofs.SameTypes.{and_true}
+use Rattle.line_rules.proofs.SameTypes.{and_true}
 use Rattle.kept_rules.proofs.StraightLaws.{arith_kept, expand_kept}
 
 -- a function behind passes
@@ -94,12 +96,14 @@ behind_verified m funcs a v =
 kept_pass : (name : PassName) (bits : ℕ) → IsWidth bits → IsKept name → FunctionKept name bits
 kept_pass ArithExpand bits w k = expand_kept bits w
 kept_pass ConvertArithToLlvm bits w k = arith_kept bits w
+kept_pass ConvertCfToLlvm bits w k = cf_kept bits w
 kept_pass ReconcileUnrealizedCasts bits w k = casts_kept bits w
 kept_pass _ bits w k = absurd k
 
 no_step : (name : PassName) (funcs : List Op) → IsKept name → module_step name funcs ≡ funcs
 no_step ArithExpand funcs k = refl
 no_step ConvertArithToLlvm funcs k = refl
+no_step ConvertCfToLlvm funcs k = refl
 no_step ReconcileUnrealizedCasts funcs k = refl
 no_step _ funcs k = absurd k
 

@@ -14,10 +14,11 @@ use Rattle.conversion_model.specs.Conversion.{Supply}
 use Rattle.conversion_model.specs.Counts.{DefinesOnce, LabelsOnce}
 use Rattle.conversion_model.specs.Fresh.{Fresh}
 use Rattle.pattern_model.specs.PassTable.{pass_tree}
-use Rattle.kept_rules.specs.Promises.{IsWidth, left_so, made_so, none_replaced, PassKeepsVerified, Replaced}
-use Rattle.kept_rules.proofs.SameTypes.{and_true}
-use Rattle.kept_rules.proofs.Once.{defines_once, labels_once}
-use Rattle.kept_rules.proofs.KeptSites.{Parts, parts_of, sound_by}
+use Rattle.fitting_rows.specs.Widths.{IsWidth}
+use Rattle.kept_rules.specs.Promises.{left_so, made_so, none_replaced, PassKeepsVerified, Replaced}
+use Rattle.line_rules.proofs.SameTypes.{and_true}
+use Rattle.line_rules.proofs.Once.{defines_once, labels_once}
+use Rattle.line_rules.proofs.KeptSites.{Parts, parts_of, sound_by}
 
 -- what is kept of a function
 pub record Kept (c : Functions) (f g : Op) : Type 0 where

@@ -27,17 +27,18 @@ use Rattle.conversion_model.specs.Uses.{blocks_listed, blocks_uses, blocks_witho
 use Rattle.conversion_model.specs.Reconciled.{is_cast, is_cast_of, is_unused_cast, is_used, pair_of, pairs_left_out, reconciled, unused_left_out, without_pair}
 use Rattle.conversion_model.proofs.OnceStages.{op_without_total}
 use Rattle.kept_rules.specs.Casts.{LeftOut, MayLeave, MayLeaveBlocks, MayLeaveOps, MayLeaveRegions}
-use Rattle.kept_rules.specs.Kept.{KeptBlocks, KeptOp, KeptOps, KeptRegions}
-use Rattle.kept_rules.specs.Promises.{IsWidth, PassKeepsVerified}
-use Rattle.kept_rules.proofs.Words.{clash, has_cases, has_left, has_right, not_so, or_first, or_left, or_right, or_second}
+use Rattle.line_rules.specs.Kept.{KeptBlocks, KeptOp, KeptOps, KeptRegions}
+use Rattle.fitting_rows.specs.Widths.{IsWidth}
+use Rattle.kept_rules.specs.Promises.{PassKeepsVerified}
+use Rattle.line_rules.proofs.Words.{clash, has_cases, has_left, has_right, not_so, or_first, or_left, or_right, or_second}
 use Rattle.kept_rules.proofs.CastPairs.{CastPair, HasCast, HasCastRegions, op_cast_operand, op_cast_used, op_cast_value, pair_found, regions_use_for}
-use Rattle.kept_rules.proofs.KeptSites.{Parts}
-use Rattle.kept_rules.proofs.LinedFormed.{all_true}
+use Rattle.line_rules.proofs.KeptSites.{Parts}
+use Rattle.line_rules.proofs.LinedFormed.{all_true}
 use Rattle.kept_rules.proofs.Modules.{formed_once, FunctionKept, Kept, keeps_verified}
-use Rattle.kept_rules.proofs.Once.{type_of_value, type_once}
+use Rattle.line_rules.proofs.Once.{type_of_value, type_once}
 use Rattle.kept_rules.proofs.RemovedRules.{cut_formed, cut_kept, cut_own, cut_tests}
 use Rattle.kept_rules.proofs.RemovedScopes.{function_cut}
-use Rattle.kept_rules.proofs.SameTypes.{equal_type}
+use Rattle.line_rules.proofs.SameTypes.{equal_type}
 use Rattle.kept_rules.proofs.SubstitutedRules.{function_formed, function_own, function_tests, op_operands_map, op_values_same}
 use Rattle.kept_rules.proofs.SubstitutedScopes.{function_uses, was_of}
 

@@ -18,16 +18,16 @@ use Rattle.rule_model.proofs.Numbers.{all_of, and_first, and_second, has_of, its
 use Rattle.conversion_model.specs.Counts.{DefinesOnce}
 use Rattle.conversion_model.specs.Conversion.{regions_of}
 use Rattle.conversion_model.specs.Uses.{blocks_without, op_without, ops_without, regions_without}
-use Rattle.kept_rules.specs.Lines.{HasValue}
+use Rattle.line_rules.specs.Lines.{HasValue}
 use Rattle.kept_rules.specs.Casts.{MayLeave, MayLeaveBlocks, MayLeaveOps, MayLeaveRegions}
-use Rattle.kept_rules.specs.Kept.{KeptBlocks, KeptOp, KeptOps, KeptRegions}
-use Rattle.kept_rules.proofs.Words.{clash, has_cases, has_left, has_right}
-use Rattle.kept_rules.proofs.SameTypes.{and_true}
-use Rattle.kept_rules.proofs.Once.{once_defined, type_of_value, value_among, value_cases, value_left, value_right}
-use Rattle.kept_rules.proofs.LinedChains.{has_if, if_has}
-use Rattle.kept_rules.proofs.LinedFormed.{all_true, true_all}
-use Rattle.kept_rules.proofs.LinedTests.{facts_with}
-use Rattle.kept_rules.proofs.LinedValues.{bare_value}
+use Rattle.line_rules.specs.Kept.{KeptBlocks, KeptOp, KeptOps, KeptRegions}
+use Rattle.line_rules.proofs.Words.{clash, has_cases, has_left, has_right}
+use Rattle.line_rules.proofs.SameTypes.{and_true}
+use Rattle.line_rules.proofs.Once.{once_defined, type_of_value, value_among, value_cases, value_left, value_right}
+use Rattle.line_rules.proofs.LinedChains.{has_if, if_has}
+use Rattle.line_rules.proofs.LinedFormed.{all_true, true_all}
+use Rattle.line_rules.proofs.LinedTests.{facts_with}
+use Rattle.line_rules.proofs.LinedValues.{bare_value}
 use Rattle.kept_rules.proofs.RemovedScopes.{if_either}
 
 -- Own uses: there are only fewer

@@ -9,9 +9,9 @@ use Rattle.rule_model.specs.Scopes.{DefinedAt, DefinedBlocks, DefinedFunction, D
 use Rattle.rule_model.proofs.Numbers.{all_of, some_same}
 use Rattle.conversion_model.specs.Uses.{blocks_without, op_without, ops_without, regions_without}
 use Rattle.kept_rules.specs.Casts.{MayLeave, MayLeaveBlocks, MayLeaveOps, MayLeaveRegions}
-use Rattle.kept_rules.proofs.Words.{by_test, clash, or_left, or_right}
-use Rattle.kept_rules.proofs.Follows.{Alike, binds_it, both, both_end, Near, passed, Started, starts_near}
-use Rattle.kept_rules.proofs.LinedScopes.{behind, free_regions, Settled, settled, Within}
+use Rattle.line_rules.proofs.Words.{by_test, clash, or_left, or_right}
+use Rattle.line_rules.proofs.Follows.{Alike, binds_it, both, both_end, Near, passed, Started, starts_near}
+use Rattle.line_rules.proofs.LinedScopes.{behind, free_regions, Settled, settled, Within}
 
 -- by a test
 pub if_either : {A : Type 0} (P : A → Type 0) (b : Bool) (x y : A) → (b ≡ true → P x) → (b ≡ false → P y) → P (if b then x else y)

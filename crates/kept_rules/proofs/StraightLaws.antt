@@ -1,5 +1,5 @@
 -- arith-expand and convert-arith-to-llvm keep modules verified.
-use Rattle.std.proofs.Common.{◌≡◌, ℕ, Bool, true, false, List, refl, sym, subst, arith, inl, inr}
+use Rattle.std.proofs.Common.{◌≡◌, ℕ, Bool, true, false, List, refl, sym, subst}
 use Rattle.std.specs.Prelude.{◌||◌, codes}
 use Rattle.std.specs.Str.{bytes_eq}
 use Rattle.std.proofs.lemmas.Slice.Eq.{bytes_eq-Decides}
@@ -12,18 +12,15 @@ use Rattle.pattern_model.specs.ExpandRows.{expand_set}
 use Rattle.pattern_model.specs.OperationNames.{arith_names, is_among}
 use Rattle.pattern_model.specs.PassTable.{expand_roots}
 use Rattle.pattern_model.proofs.PassOnce.{passes_define_once}
-use Rattle.kept_rules.specs.Promises.{IsWidth, PassKeepsVerified}
+use Rattle.fitting_rows.specs.Widths.{IsWidth}
+use Rattle.kept_rules.specs.Promises.{PassKeepsVerified}
 use Rattle.kept_rules.proofs.Modules.{formed_labels, formed_once, FunctionKept, keeps_verified}
-use Rattle.kept_rules.proofs.FitShapes.{Width}
-use Rattle.kept_rules.proofs.FitExpand.{expand_fits}
-use Rattle.kept_rules.proofs.FitArith.{arith_fits}
-use Rattle.kept_rules.proofs.SourceFits.{CalcName}
+use Rattle.fitting_rows.proofs.FitShapes.{width_of}
+use Rattle.fitting_rows.proofs.FitExpand.{expand_fits}
+use Rattle.fitting_rows.proofs.FitArith.{arith_fits}
+use Rattle.fitting_rows.proofs.SourceFits.{CalcName}
 use Rattle.kept_rules.proofs.StraightPass.{straight_kept}
-use Rattle.kept_rules.proofs.Uncut.{AllStraight}
-
-pub width_of : (bits : ℕ) → IsWidth bits → Width bits
-width_of bits (inl e) = record { low = omega (arith, e); high = omega (arith, e) }
-width_of bits (inr e) = record { low = omega (arith, e); high = omega (arith, e) }
+use Rattle.fitting_rows.proofs.Uncut.{AllStraight}
 
 -- the name of a function is one of two
 pub function_name : (P : List ℕ → Type 0) → P (codes "func.func") → P (codes "llvm.func") → (name : List ℕ) → is_function_name name ≡ true → P name

@@ -1,8 +1,7 @@
 -- A pass of straight rows without block arguments keeps all rules.
-use Rattle.std.proofs.Common.{◌≡◌, ℕ, ◌+◌, ◌==◌, ◌≤◌, Bool, true, false, List, [], ◌∷◌, Option, Some, None, refl, sym, ap, ◌∙◌, subst, length, inl, inr, arith, true≢false}
-use Rattle.std.specs.Prelude.{◌&&◌, not, Ok, Err, if◌then◌else◌}
+use Rattle.std.proofs.Common.{◌≡◌, ℕ, Bool, true, false, List, [], ◌∷◌, Option, Some, None, refl, sym, ap, ◌∙◌, subst, inl, inr, true≢false}
+use Rattle.std.specs.Prelude.{not, Ok, Err, if◌then◌else◌}
 use Rattle.std.specs.Str.{bytes_eq}
-use Rattle.std.proofs.lemmas.Bool.{eqb-true}
 use Rattle.std.proofs.lemmas.Slice.Eq.{bytes_eq-Decides}
 use Rattle.plain_tree.specs.Types.{PlainType}
 use Rattle.plain_tree.specs.Ops.{Kind, Op, op, Ops, end_of_ops, more_ops, Regions, end_of_regions, region, Blocks, end_of_blocks, block, Values}
@@ -11,37 +10,41 @@ use Rattle.rule_model.specs.Words.{AllOf, has, numbers}
 use Rattle.rule_model.specs.Facts.{Functions, Holder}
 use Rattle.rule_model.specs.Formed.{are_formed_blocks, are_formed_ops, are_formed_regions, are_formed_values, are_once, is_formed_function, is_formed_here, is_formed_op, is_function_name, is_inner_name, own_labels, regions_labels}
 use Rattle.rule_model.specs.Sites.{holds}
-use Rattle.rule_model.proofs.Numbers.{and_first, and_second, itself}
+use Rattle.rule_model.proofs.Numbers.{and_first, and_second}
 use Rattle.conversion_model.specs.Templates.{copy_name, Template, written}
 use Rattle.conversion_model.specs.Targets.{demanded, Illegal, is_illegal_at, is_legal, Legal, operands_of, Partial, Shape, shape_of as of_shape, Unknown}
 use Rattle.conversion_model.specs.Rows.{Pattern}
-use Rattle.conversion_model.specs.Chosen.{chosen, counted}
-use Rattle.conversion_model.specs.Items.{blocks_size, held_regions, op_size, ops_size, Ways, whole_regions}
+use Rattle.conversion_model.specs.Chosen.{chosen}
+use Rattle.conversion_model.specs.Items.{held_regions, Ways, whole_regions}
 use Rattle.conversion_model.specs.Uses.{copies_left_out, operations}
 use Rattle.conversion_model.specs.Conversion.{choice_in, conv, converted, first_unlegalised, function_by, line_by, or_fails, Pass, regions_of, Supply, Unlegalised, ways}
-use Rattle.conversion_model.specs.Fresh.{Fresh, IsOld, IsOldLabel, of_line}
+use Rattle.conversion_model.specs.Fresh.{Fresh, IsOld, IsOldLabel}
 use Rattle.conversion_model.specs.Counts.{DefinesOnce}
 use Rattle.pattern_model.specs.OperationNames.{is_among, is_known}
 use Rattle.pattern_model.specs.PassTable.{partial_pass, partial_target}
-use Rattle.kept_rules.specs.Lines.{HasValue, Line, LinedRegions, LineKeeps, Put, put_itself, put_line, Turn, TurnKeeps}
-use Rattle.kept_rules.specs.Fits.{Fits}
-use Rattle.kept_rules.specs.Kept.{KeptBlocks, KeptOp, KeptOps, KeptRegions}
-use Rattle.kept_rules.proofs.Once.{once_defined, type_of_value, type_once, value_among, value_cases, value_left, value_right}
-use Rattle.kept_rules.proofs.LinedScopes.{lined_defined}
-use Rattle.kept_rules.proofs.LinedChains.{lined_own}
-use Rattle.kept_rules.proofs.LinedItems.{PutBlocks, PutOp, PutOps, PutRegions, whole_lined}
-use Rattle.kept_rules.proofs.LinedValues.{regions_kept}
-use Rattle.kept_rules.proofs.LinedFormed.{lined_formed, regions_formed}
-use Rattle.kept_rules.proofs.LinedTests.{lined_tests}
-use Rattle.kept_rules.proofs.KeptSites.{Parts}
+use Rattle.line_rules.specs.Lines.{HasValue, Line, LinedRegions, LineKeeps, Put, put_itself, put_line, Turn, TurnKeeps, operands_regions}
+use Rattle.line_rules.specs.Fits.{Fits}
+use Rattle.line_rules.specs.Kept.{KeptOp}
+use Rattle.line_rules.proofs.Once.{once_defined, type_of_value, type_once, value_among, value_cases, value_left, value_right}
+use Rattle.line_rules.proofs.LineLaws.{new_apart, new_unique}
+use Rattle.line_rules.proofs.LinedScopes.{lined_defined}
+use Rattle.line_rules.proofs.LinedChains.{lined_own}
+use Rattle.line_rules.proofs.LinedItems.{whole_lined}
+use Rattle.line_rules.proofs.PutAll.{put_regions}
+use Rattle.line_rules.proofs.LinedValues.{regions_kept}
+use Rattle.line_rules.proofs.LinedFormed.{lined_formed, regions_formed}
+use Rattle.line_rules.proofs.LinedTests.{lined_tests}
+use Rattle.line_rules.proofs.KeptSites.{Parts}
 use Rattle.kept_rules.proofs.Modules.{Kept}
-use Rattle.kept_rules.proofs.TypedChoice.{own_shape, table_typed, TableTyped}
-use Rattle.kept_rules.proofs.WrittenGood.{Good, written_good}
-use Rattle.kept_rules.proofs.Uncut.{AllStraight, choice_uncut, if_uncut}
-use Rattle.kept_rules.proofs.Numbered.{AtBlocks, AtOp, AtOps, AtRegions, numbered, operands_regions}
-use Rattle.kept_rules.proofs.NoCopies.{NoCopyBlocks, NoCopyOp, NoCopyOps, NoCopyRegions, none_left_out}
-use Rattle.kept_rules.proofs.SourceFits.{among_of, CalcName, GoodType, source_fits}
-use Rattle.kept_rules.proofs.GoodValues.{function_good}
+use Rattle.fitting_rows.specs.Typed.{TableTyped}
+use Rattle.fitting_rows.proofs.ChosenFits.{few_results, own_fits}
+use Rattle.fitting_rows.proofs.TypedChoice.{table_typed}
+use Rattle.fitting_rows.proofs.WrittenGood.{Good, written_good}
+use Rattle.fitting_rows.proofs.Uncut.{AllStraight, choice_uncut, if_uncut}
+use Rattle.line_rules.proofs.Numbered.{numbered}
+use Rattle.line_rules.proofs.NoCopies.{NoCopyBlocks, NoCopyOp, NoCopyOps, NoCopyRegions, none_left_out}
+use Rattle.fitting_rows.proofs.SourceFits.{among_of, CalcName, GoodType, source_fits}
+use Rattle.fitting_rows.proofs.GoodValues.{function_good}
 
 -- An operation of a formed tree is no copy: its name is of bytes
 
@@ -55,16 +58,16 @@ no_copy_name name e = go (bytes_eq name copy_name) refl
 mutual
   formed_op : (defined labels : List ℕ) (o : Op) → is_formed_op defined labels o ≡ true → NoCopyOp o
   formed_op defined labels (op k rs os r ls) e =
-      (no_copy_name k.name (and_first (is_inner_name k.name) _ e), pub_formed_regions defined r (and_second (is_formed_here defined labels k rs os ls) _ (and_second (is_inner_name k.name) _ e)))
+      (no_copy_name k.name (and_first (is_inner_name k.name) _ e), no_copy_regions defined r (and_second (is_formed_here defined labels k rs os ls) _ (and_second (is_inner_name k.name) _ e)))
 
   formed_ops : (defined labels : List ℕ) (os : Ops) → are_formed_ops defined labels os ≡ true → NoCopyOps os
   formed_ops defined labels end_of_ops e = tt
   formed_ops defined labels (more_ops o os) e = (formed_op defined labels o (and_first (is_formed_op defined labels o) _ e), formed_ops defined labels os (and_second (is_formed_op defined labels o) _ e))
 
-  pub_formed_regions : (defined : List ℕ) (rs : Regions) → are_formed_regions defined rs ≡ true → NoCopyRegions rs
-  pub_formed_regions defined end_of_regions e = tt
-  pub_formed_regions defined (region b r) e =
-      (formed_blocks defined (own_labels b) b (and_first (are_formed_blocks defined (own_labels b) b) _ e), pub_formed_regions defined r (and_second (are_formed_blocks defined (own_labels b) b) _ e))
+  pub no_copy_regions : (defined : List ℕ) (rs : Regions) → are_formed_regions defined rs ≡ true → NoCopyRegions rs
+  no_copy_regions defined end_of_regions e = tt
+  no_copy_regions defined (region b r) e =
+      (formed_blocks defined (own_labels b) b (and_first (are_formed_blocks defined (own_labels b) b) _ e), no_copy_regions defined r (and_second (are_formed_blocks defined (own_labels b) b) _ e))
 
   formed_blocks : (defined labels : List ℕ) (bs : Blocks) → are_formed_blocks defined labels bs ≡ true → NoCopyBlocks bs
   formed_blocks defined labels end_of_blocks e = tt
@@ -91,38 +94,6 @@ not_demanded illegal o e = go (is_illegal_at o (partial_target illegal [] o.name
     go : (b : Bool) → is_illegal_at o (partial_target illegal [] o.name) ≡ b → b ≡ false
     go true f = absurd (true≢false (sym (demanded_among illegal o f) ∙ e))
     go false f = refl
-
-few_results : (o : Shape) → Fits o → length o.results ≤ 1
-few_results o f = omega (arith, f.one)
-
-own_fits : (o : Shape) → Fits o → Fits (own_shape o)
-own_fits o f = record {
-  form = f.form;
-  known = f.known;
-  line = f.line;
-  name = f.name;
-  operands = f.operands;
-  results = f.results;
-  attributes = f.attributes;
-  operand_values = f.operand_values;
-  operands_formed = f.operands_formed;
-  result_values = f.result_values;
-  results_formed = f.results_formed;
-  props = f.props;
-  one = f.one;
-  bare = refl;
-  ends_here = ap (λ n. length (counted 0 n)) f.ends_here;
-}
-
--- New values
-
-new_apart : (new : Supply) (v n k : ℕ) → IsOld new v → v ≡ new.value n 0 k → ⊥
-new_apart new v n k old e = true≢false (sym (ap (λ x. v == x) (sym e) ∙ itself v) ∙ old (of_line n 0 k))
-
-new_unique : (new : Supply) (f : Op) → Fresh new f → (n k m j : ℕ) → new.value n 0 k ≡ new.value m 0 j → (n ≡ m) × (k ≡ j)
-new_unique new f fresh n k m j e =
-    let same : ((n == m) && ((0 == 0) && (k == j))) ≡ true = sym (fresh.values (of_line n 0 k) (of_line m 0 j)) ∙ ap (λ x. x == new.value m 0 j) e ∙ itself (new.value m 0 j) in
-    (eqb-true n m (and_first (n == m) _ same), eqb-true k j (and_second (n == m) (k == j) same))
 
 module _ (bits : ℕ) (table : List Pattern) (illegal : List (List ℕ)) (typed : TableTyped Fits bits table) (straight : AllStraight bits table) (calc : AllOf CalcName illegal)
     (funcs : (name : List ℕ) → is_function_name name ≡ true → is_among illegal name ≡ false) where
@@ -177,31 +148,6 @@ module _ (bits : ℕ) (table : List Pattern) (illegal : List (List ℕ)) (typed 
         by_demand false e = put_itself tt
         by_demand true e = by_legal (is_legal (partial_target illegal []) (of_shape T (op k rs os r ls))) (demanded_among illegal (of_shape T (op k rs os r ls)) e)
 
-    mutual
-      put_op : (c : Functions) (h : Option Holder) (bs : Blocks) (rest : Ops) (labels : List ℕ) (n : ℕ) (o : Op) → AtOp at n o → KeptOp c T h bs rest o → is_formed_op was labels o ≡ true → PutOp way Stays Lines NoTurns uncut n o
-      put_op c h bs rest labels n (op k rs os r ls) a kept e = (
-        λ s. put_here c h bs rest labels n k rs os ls r s a.0 kept e,
-        put_regions c (holds T (op k rs os r ls)) 0 (n + 1) r a.1 kept.1 (and_second (is_formed_here was labels k rs os ls) _ (and_second (is_inner_name k.name) _ e)),
-      )
-
-      put_ops_all : (c : Functions) (h : Option Holder) (bs : Blocks) (labels : List ℕ) (n : ℕ) (os : Ops) → AtOps at n os → KeptOps c T h bs os → are_formed_ops was labels os ≡ true → PutOps way Stays Lines NoTurns uncut n os
-      put_ops_all c h bs labels n end_of_ops a kept e = tt
-      put_ops_all c h bs labels n (more_ops o rest) a kept e =
-          (put_op c h bs rest labels n o a.0 kept.0 (and_first (is_formed_op was labels o) _ e), put_ops_all c h bs labels (n + op_size o) rest a.1 kept.1 (and_second (is_formed_op was labels o) _ e))
-
-      put_regions : (c : Functions) (holder : ℕ → Holder) (m n : ℕ) (rs : Regions) → AtRegions at n rs → KeptRegions c T holder m rs → are_formed_regions was rs ≡ true → PutRegions way Stays Lines NoTurns uncut n rs
-      put_regions c holder m n end_of_regions a kept e = tt
-      put_regions c holder m n (region b r) a kept e = (
-        put_blocks c (Some (holder m)) b (own_labels b) n b a.0 kept.0 (and_first (are_formed_blocks was (own_labels b) b) _ e),
-        put_regions c holder (m + 1) (n + blocks_size b) r a.1 kept.1 (and_second (are_formed_blocks was (own_labels b) b) _ e),
-      )
-
-      put_blocks : (c : Functions) (h : Option Holder) (bs : Blocks) (labels : List ℕ) (n : ℕ) (cs : Blocks) → AtBlocks at n cs → KeptBlocks c T h bs cs → are_formed_blocks was labels cs ≡ true → PutBlocks way Stays Lines NoTurns uncut n cs
-      put_blocks c h bs labels n end_of_blocks a kept e = tt
-      put_blocks c h bs labels n (block l args ops more) a kept e =
-          let parts = and_second (are_formed_values args) _ e in
-          (put_ops_all c h bs labels n ops a.0 kept.0 (and_first (are_formed_ops was labels ops) _ parts), put_blocks c h bs labels (n + ops_size ops) more a.1 kept.1 (and_second (are_formed_ops was labels ops) _ parts))
-
   is_converted : (new : Supply) (f g : Op) → conv pass bits new f ≡ Ok g → converted pass bits new f ≡ g
   is_converted new f g e = go (first_unlegalised pass bits new (types_of f) (operations f)) e
     where
@@ -225,7 +171,7 @@ module _ (bits : ℕ) (table : List Pattern) (illegal : List (List ℕ)) (typed 
       let h : Op = op k rs os s ls in
       let lined : LinedRegions (Stays new T at was good) (Lines new T at was good) (NoTurns new T at was good) 1 r s =
       whole_lined (way new T at was good) (Stays new T at was good) (Lines new T at was good) (NoTurns new T at was good) (uncut new T at was good) 1 r
-      (put_regions new T at was good c (holds T f) 0 1 r (numbered 1 r) parts.tests.1 inside) in
+      (put_regions (way new T at was good) (Stays new T at was good) (Lines new T at was good) (NoTurns new T at was good) (uncut new T at was good) T at was (put_here new T at was good) c (holds T f) 0 1 r (numbered 1 r) parts.tests.1 inside) in
       let line_of : (n : ℕ) (o : Op) (l : List Op) → Lines new T at was good n o l → Line (IsOld new) o l = λ n o l x. x.0.line in
       let turn_of : (n : ℕ) (o : Op) (l : List Op) (t : Op) → NoTurns new T at was good n o l t → Turn (IsOld new) o l t = λ n o l t x. absurd x in
       let keeps_of : (n : ℕ) (o : Op) (l : List Op) → Lines new T at was good n o l → LineKeeps o l = λ n o l x. x.0.keeps in
@@ -239,7 +185,7 @@ module _ (bits : ℕ) (table : List Pattern) (illegal : List (List ℕ)) (typed 
       let formed_inside : are_formed_regions (numbers (op_values h [])) s ≡ true =
       regions_formed (IsOld new) (Stays new T at was good) (Lines new T at was good) (NoTurns new T at was good) line_of turn_of keeps_of turn_keeps was (numbers (op_values h [])) [] lined kept_number
       (λ x t v. value_among (op_values h []) x t (value_right x t rs (regions_values s []) v)) inside in
-      let whole : copies_left_out h ≡ h = none_left_out h (no_function_copy k.name (and_first (is_function_name k.name) _ e), pub_formed_regions (numbers (op_values h [])) s formed_inside) in
+      let whole : copies_left_out h ≡ h = none_left_out h (no_function_copy k.name (and_first (is_function_name k.name) _ e), no_copy_regions (numbers (op_values h [])) s formed_inside) in
       let same : g ≡ h = sym (is_converted new f g conv_is) ∙ ap copies_left_out (no_frame new f (is_illegal_at (of_shape T f) (partial_target illegal [] k.name)) (not_demanded illegal (of_shape T f) (funcs k.name (and_first (is_function_name k.name) _ e)))) ∙ whole in
       let once : DefinesOnce h = subst DefinesOnce same once_g in
       let agree : (x : ℕ) → has x was ≡ true → types_of h x ≡ T x = λ x a. type_once (op_values h []) x (T x) (once_defined h once) (kept x (T x) (type_of_value (op_values f []) x a)) in

@@ -15,9 +15,9 @@ use Rattle.rule_model.specs.Rules.{keeps}
 use Rattle.rule_model.specs.Sites.{holds}
 use Rattle.rule_model.proofs.Numbers.{and_first, and_second}
 use Rattle.conversion_model.specs.Uses.{blocks_uses, op_uses, ops_uses, regions_uses, replaced}
-use Rattle.kept_rules.specs.Kept.{KeptBlocks, KeptOp, KeptOps, KeptRegions}
-use Rattle.kept_rules.proofs.LinedTests.{facts_with}
-use Rattle.kept_rules.proofs.SameTypes.{and_true}
+use Rattle.line_rules.specs.Kept.{KeptBlocks, KeptOp, KeptOps, KeptRegions}
+use Rattle.line_rules.proofs.LinedTests.{facts_with}
+use Rattle.line_rules.proofs.SameTypes.{and_true}
 use Rattle.kept_rules.proofs.SubstitutedScopes.{Was, was_of}
 
 -- Values and labels stay

@@ -12,9 +12,9 @@ use Rattle.rule_model.proofs.ScopeLaws.{reached_without}
 use Rattle.conversion_model.specs.Counts.{blocks_total, hits, none, regions_total}
 use Rattle.conversion_model.specs.Uses.{blocks_uses, op_uses, ops_uses, regions_uses, replaced}
 use Rattle.kept_rules.specs.Casts.{UsesForBlocks, UsesForOps, UsesForRegions}
-use Rattle.kept_rules.proofs.Words.{by_test, clash, or_left, or_right}
-use Rattle.kept_rules.proofs.Follows.{Alike, binds_it, both, both_end, followed, Near, NoneReached, Started, starts_near, unused}
-use Rattle.kept_rules.proofs.LinedScopes.{behind, free_blocks, Settled, Within}
+use Rattle.line_rules.proofs.Words.{by_test, clash, or_left, or_right}
+use Rattle.line_rules.proofs.Follows.{Alike, binds_it, both, both_end, followed, Near, NoneReached, Started, starts_near, unused}
+use Rattle.line_rules.proofs.LinedScopes.{behind, free_blocks, Settled, Within}
 use Rattle.kept_rules.proofs.CastScopes.{blocks_use, deeper_blocks, deeper_most, deeper_ops, defined_through, from_either, none_bound, none_deeper, reach_through, to_either}
 
 -- an operand that was replaced

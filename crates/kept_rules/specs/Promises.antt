@@ -1,26 +1,19 @@
 -- What the laws on verified modules promise.
-use Rattle.std.specs.Prelude.{◌≡◌, ◌⊎◌, ℕ, ◌+◌, true, List, [], ◌∷◌, Ok, ⊤}
+use Rattle.std.specs.Prelude.{◌≡◌, ℕ, ◌+◌, List, [], ◌∷◌, Ok, ⊤}
 use Rattle.pipeline_text.specs.declared.pass.PassName.{PassName}
-use Rattle.pipeline_text.specs.declared.pass.PassName.TheVariants.{ArithExpand, ConvertArithToLlvm, ReconcileUnrealizedCasts}
+use Rattle.pipeline_text.specs.declared.pass.PassName.TheVariants.{ArithExpand, ConvertArithToLlvm, ConvertCfToLlvm, ReconcileUnrealizedCasts}
 use Rattle.pipeline_text.specs.declared.pass.PassUse.{PassUse}
 use Rattle.pipeline_text.specs.declared.pass.Pipeline.{Pipeline}
 use Rattle.pipeline_text.specs.declared.pass.Stage.{Stage}
 use Rattle.pipeline_text.specs.declared.pass.Stage.TheVariants.{Whole, Each}
+pub use Rattle.fitting_rows.specs.Widths.{IsWidth}
 use Rattle.plain_tree.specs.Ops.{Op, PlainModule}
 use Rattle.rule_model.specs.Words.{AllOf}
 use Rattle.rule_model.specs.Rules.{Verified}
-use Rattle.rule_model.specs.Chains.{Chain}
-use Rattle.rule_model.specs.Formed.{is_formed_function}
-use Rattle.rule_model.specs.Scopes.{DefinedFunction}
-use Rattle.conversion_model.specs.Conversion.{op_blocks, Supply}
-use Rattle.conversion_model.specs.Counts.{DefinesOnce}
+use Rattle.conversion_model.specs.Conversion.{Supply}
 use Rattle.conversion_model.specs.Fresh.{Fresh}
 use Rattle.pattern_model.specs.PassTable.{pass_tree}
 use Rattle.pattern_model.specs.Fold.{folded, stage_run, width}
-
--- the widths that an index may have
-abbrev pub IsWidth : ℕ → Type 0
-IsWidth bits = (bits ≡ 32) ⊎ (bits ≡ 64)
 
 -- functions in order, each as it was or what the pass makes of it with fresh numbers
 pub data Replaced (name : PassName) (bits : ℕ) : List Op → List Op → Type 0 where
@@ -42,6 +35,9 @@ ExpandKeepsVerified = PassKeepsVerified ArithExpand
 abbrev pub ArithKeepsVerified : Type 0
 ArithKeepsVerified = PassKeepsVerified ConvertArithToLlvm
 
+abbrev pub CfKeepsVerified : Type 0
+CfKeepsVerified = PassKeepsVerified ConvertCfToLlvm
+
 abbrev pub CastsKeepVerified : Type 0
 CastsKeepVerified = PassKeepsVerified ReconcileUnrealizedCasts
 
@@ -51,6 +47,7 @@ CastsKeepVerified = PassKeepsVerified ReconcileUnrealizedCasts
 abbrev pub IsKept : PassName → Type 0
 IsKept ArithExpand = ⊤
 IsKept ConvertArithToLlvm = ⊤
+IsKept ConvertCfToLlvm = ⊤
 IsKept ReconcileUnrealizedCasts = ⊤
 IsKept _ = ⊥
 
@@ -79,17 +76,3 @@ FreshStages new bits n (s ∷ ss) funcs = FreshStage (new n) bits s funcs × Fre
 abbrev pub FoldKeepsVerified : Type 0
 FoldKeepsVerified = (new : ℕ → ℕ → ℕ → Supply) (p : Pipeline) (m : PlainModule) → IsWidth (width p.stages) → AllOf KeptStage p.stages → FreshStages new (width p.stages) 0 p.stages m.funcs → Verified m
     → Verified (folded new p m).module_behind
-
--- Block arguments
-
--- where the arguments of blocks get their converted types, with casts back from fresh numbers, rule `Defined` is kept, region by region
-abbrev pub BlocksKeepDefined : Type 0
-BlocksKeepDefined = (bits : ℕ) (new : Supply) (f : Op) → Fresh new f → DefinedFunction f → DefinedFunction (op_blocks bits new.argument f)
-
--- and still no value uses itself
-abbrev pub BlocksKeepOwn : Type 0
-BlocksKeepOwn = (bits : ℕ) (new : Supply) (f : Op) → Fresh new f → ((v : ℕ) → Chain f v v → ⊥) → (v : ℕ) → Chain (op_blocks bits new.argument f) v v → ⊥
-
--- and a formed function stays formed, where each number is still defined once
-abbrev pub BlocksKeepFormed : Type 0
-BlocksKeepFormed = (bits : ℕ) (new : Supply) (f : Op) → IsWidth bits → DefinesOnce (op_blocks bits new.argument f) → is_formed_function f ≡ true → is_formed_function (op_blocks bits new.argument f) ≡ true

@@ -5,4 +5,4 @@
 
 mod laws;
 
-pub use laws::{law_block_arguments, law_fold_verified, law_verified};
+pub use laws::{law_fold_verified, law_verified};

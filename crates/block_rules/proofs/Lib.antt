@@ -1,0 +1,11 @@
+pub mod BranchTemplates
+pub mod BranchChoice
+pub mod BranchTurns
+pub mod AlikeTests
+pub mod BranchLines
+pub mod BlockScopes
+pub mod BlockUses
+pub mod BlockFormed
+pub mod TurnedTests
+pub mod TurnedNumbers
+pub mod BranchLaws

@@ -1,0 +1,14 @@
+pub mod TypedSteps
+pub mod TypedTemplates
+pub mod TypedChoice
+pub mod FitShapes
+pub mod FitViews
+pub mod FitExpand
+pub mod FitIntegers
+pub mod FitArith
+pub mod Written
+pub mod WrittenGood
+pub mod Uncut
+pub mod SourceFits
+pub mod GoodValues
+pub mod ChosenFits

@@ -1,0 +1,4 @@
+pub mod Lines
+pub mod Fits
+pub mod Kept
+pub mod Promises
