@@ -44,7 +44,7 @@ abbrev mutual
   HasCastBlocks v r t (block l args ops more) = HasCastOps v r t ops ⊎ HasCastBlocks v r t more
 
 -- among casts
-abbrev Among : Cast → List Cast → Type 0
+abbrev pub Among : Cast → List Cast → Type 0
 Among c [] = ⊥
 Among c (d ∷ ds) = (c ≡ d) ⊎ Among c ds
 
@@ -154,30 +154,51 @@ pair_from all (c ∷ cs) p e = go (stands_for c all) refl e (pair_from all cs p)
         let same : (c.result, v) ≡ p = some_same (c.result, v) p f in
         record { cast = c; among = inl refl; stands = subst (Stood c all) (ap (λ (q : ℕ × ℕ). q.1) same) (stood c all v s); result = ap (λ (q : ℕ × ℕ). q.0) same }
 
-pub pair_found : (f : Op) (p : ℕ × ℕ) → pair_of f ≡ Some p → CastPair f p
-pair_found f p e =
-    let all : List Cast = casts_in (types_of f) (operations f) in
-    let q = pair_from all all p e in
-    let c : Cast = q.cast in
-    let s = q.stands in
-    let d : Cast = s.other in
-    let fc = only (op_found (types_of f) 0 f [] c q.among) in
-    let fd = only (op_found (types_of f) 0 f [] d s.among) in
-    let joint : (d.result == c.operand) ≡ true = and_first (d.result == c.operand) _ s.undone in
-    let rest = and_second (d.result == c.operand) _ s.undone in
+-- two casts of which the one undoes the other
+pub pair_by : (f : Op) (c d : Cast) → Among c (casts_in (types_of f) (operations f)) → Among d (casts_in (types_of f) (operations f)) → undoes c d ≡ true → CastPair f (c.result, d.operand)
+pair_by f c d there earlier undone =
+    let fc = only (op_found (types_of f) 0 f [] c there) in
+    let fd = only (op_found (types_of f) 0 f [] d earlier) in
+    let rest = and_second (d.result == c.operand) _ undone in
     record {
       middle = c.operand;
       to = c.to;
       between = d.to;
-      last = subst (λ x. HasCast c.operand x c.to f) q.result fc.there;
-      first = subst (λ x. HasCast x c.operand d.to f) s.is (subst (λ x. HasCast d.operand x d.to f) (eqb-true d.result c.operand joint) fd.there);
-      type_there = ap (λ x. same_type (types_of f x) c.to) (sym s.is) ∙ ap (λ x. same_type x c.to) (sym fd.from) ∙ and_first (same_type d.from c.to) _ rest;
-      apart = ap (λ x. x == p.0) (sym s.is) ∙ ap (λ x. d.operand == x) (sym q.result) ∙ not_true (d.operand == c.result) (and_second (same_type d.from c.to) _ rest);
+      last = fc.there;
+      first = subst (λ x. HasCast d.operand x d.to f) (eqb-true d.result c.operand (and_first (d.result == c.operand) _ undone)) fd.there;
+      type_there = ap (λ x. same_type x c.to) (sym fd.from) ∙ and_first (same_type d.from c.to) _ rest;
+      apart = not_true (d.operand == c.result) (and_second (same_type d.from c.to) _ rest);
     }
   where
     only : {A : Type 0} → A ⊎ ⊥ → A
     only (inl a) = a
     only (inr never) = absurd never
+
+-- the two casts that are found
+pub record FoundPair (f : Op) (p : ℕ × ℕ) : Type 0 where
+  pub cast : Cast
+  pub earlier : Cast
+  pub there : Among cast (casts_in (types_of f) (operations f))
+  pub earlier_there : Among earlier (casts_in (types_of f) (operations f))
+  pub undone : undoes cast earlier ≡ true
+  pub is : (cast.result, earlier.operand) ≡ p
+
+pub found_pair : (f : Op) (p : ℕ × ℕ) → pair_of f ≡ Some p → FoundPair f p
+found_pair f p e =
+    let all : List Cast = casts_in (types_of f) (operations f) in
+    let q = pair_from all all p e in
+    let s = q.stands in
+    record {
+      cast = q.cast;
+      earlier = s.other;
+      there = q.among;
+      earlier_there = s.among;
+      undone = s.undone;
+      is = ap (λ n. (n, s.other.operand)) q.result ∙ ap (λ n. (p.0, n)) s.is;
+    }
+
+pub pair_found : (f : Op) (p : ℕ × ℕ) → pair_of f ≡ Some p → CastPair f p
+pair_found f p e = let x = found_pair f p e in subst (CastPair f) x.is (pair_by f x.cast x.earlier x.there x.earlier_there x.undone)
 
 -- What a cast says, where its result is defined once
 

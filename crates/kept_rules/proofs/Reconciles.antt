@@ -248,7 +248,7 @@ same_cast to r (op k (x ∷ []) (v ∷ w ∷ os) g ls) = refl
 same_cast to r (op k (x ∷ y ∷ rs) os g ls) = refl
 
 mutual
-  op_swap : (to : ℕ → ℕ) (r : ℕ) (o : Op) → op_without (is_cast_of r) (op_uses to o) ≡ op_uses to (op_without (is_cast_of r) o)
+  pub op_swap : (to : ℕ → ℕ) (r : ℕ) (o : Op) → op_without (is_cast_of r) (op_uses to o) ≡ op_uses to (op_without (is_cast_of r) o)
   op_swap to r (op k rs os g ls) = ap (λ x. op k rs (map to os) x ls) (regions_swap to r g)
 
   ops_swap : (to : ℕ → ℕ) (r : ℕ) (os : Ops) → ops_without (is_cast_of r) (ops_uses to os) ≡ ops_uses to (ops_without (is_cast_of r) os)
@@ -293,7 +293,7 @@ cast_of_gone Used r (op k (y ∷ z ∷ rs) os g ls) never e = absurd (true≢fal
 not_root : (k : Kind) → is_function_name k.name ≡ true → bytes_eq k.name cast_name ≡ true → ⊥
 not_root k f e = true≢false (sym (subst (λ n. is_function_name n ≡ true) ((bytes_eq-Decides k.name cast_name).0 e) f))
 
-inner_cast : (v r : ℕ) (t : PlainType) (k : Kind) (rs : Values) (os ls : List ℕ) (g : Regions) → is_function_name k.name ≡ true → HasCast v r t (op k rs os g ls) → HasCastRegions v r t g
+pub inner_cast : (v r : ℕ) (t : PlainType) (k : Kind) (rs : Values) (os ls : List ℕ) (g : Regions) → is_function_name k.name ≡ true → HasCast v r t (op k rs os g ls) → HasCastRegions v r t g
 inner_cast v r t k rs os ls g f (inl h) = absurd (not_root k f h.0)
 inner_cast v r t k rs os ls g f (inr h) = h
 
@@ -354,22 +354,21 @@ no_more f r u apart h =
     go n true e is = true≢false (sym (eq-eqb u r is) ∙ apart)
     go n false e is = true≢false (sym (eq-eqb n r is) ∙ e)
 
-pair_kept : (c : Functions) (f : Op) (p : ℕ × ℕ) → pair_of f ≡ Some p → is_formed_function f ≡ true → Parts c f → Kept c f (without_pair p f)
-pair_kept c (op k rs os g ls) p e formed parts =
+pub pair_kept : (c : Functions) (f : Op) (p : ℕ × ℕ) → CastPair f p → is_formed_function f ≡ true → Parts c f → Kept c f (without_pair p f)
+pair_kept c (op k rs os g ls) p pair formed parts =
     let f : Op = op k rs os g ls in
-    let pair = pair_found f p e in
     let first = use_kept c k rs os ls g p pair formed parts in
     let f1 : Op = op_uses (replaced p.0 p.1) f in
     let second = cut_function (is_cast_of p.0) c f1 (λ o. cast_of_gone (Operand f1) p.0 o (no_more f p.0 p.1 pair.apart)) first.formed first.parts in
     subst (Kept c f) (op_swap (replaced p.0 p.1) p.0 f) (then_kept c f f1 (op_without (is_cast_of p.0) f1) first second)
 
-pairs_kept : (c : Functions) (room : ℕ) (f : Op) → is_formed_function f ≡ true → Parts c f → Kept c f (pairs_left_out room f)
+pub pairs_kept : (c : Functions) (room : ℕ) (f : Op) → is_formed_function f ≡ true → Parts c f → Kept c f (pairs_left_out room f)
 pairs_kept c zero f formed parts = record { formed = formed; parts = parts; declared_same = refl }
 pairs_kept c (suc room) f formed parts = go (pair_of f) refl (λ g k. pairs_kept c room g k.formed k.parts)
   where
     go : (x : Option (ℕ × ℕ)) → pair_of f ≡ x → ((g : Op) → Kept c f g → Kept c g (pairs_left_out room g)) → Kept c f (elim x [ None ↦ f | Some p ↦ pairs_left_out room (without_pair p f) ])
     go None e rest = record { formed = formed; parts = parts; declared_same = refl }
-    go (Some p) e rest = let k = pair_kept c f p e formed parts in then_kept c f (without_pair p f) (pairs_left_out room (without_pair p f)) k (rest (without_pair p f) k)
+    go (Some p) e rest = let k = pair_kept c f p (pair_found f p e) formed parts in then_kept c f (without_pair p f) (pairs_left_out room (without_pair p f)) k (rest (without_pair p f) k)
 
 pub reconciled_kept : (c : Functions) (f : Op) → is_formed_function f ≡ true → Parts c f → Kept c f (reconciled f)
 reconciled_kept c f formed parts =

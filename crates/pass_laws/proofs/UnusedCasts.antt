@@ -48,7 +48,7 @@ use Rattle.pass_laws.proofs.Counted.{and_left, and_right}
 
 -- A cast moves its value or has no meaning
 
-cast_form : (bits : ℕ) (props : Entries) (ts us : List PlainType) → (form_at bits (codes "builtin.unrealized_conversion_cast") props ts us ≡ Computes Moves) ⊎ (form_at bits (codes "builtin.unrealized_conversion_cast") props ts us ≡ Unknown)
+pub cast_form : (bits : ℕ) (props : Entries) (ts us : List PlainType) → (form_at bits (codes "builtin.unrealized_conversion_cast") props ts us ≡ Computes Moves) ⊎ (form_at bits (codes "builtin.unrealized_conversion_cast") props ts us ≡ Unknown)
 unfolding form_of
 cast_form bits props (t ∷ []) (u ∷ []) = go (become_same bits (type_tree t) (type_tree u)) refl
   where
@@ -61,7 +61,7 @@ cast_form bits props (t ∷ s ∷ ts) us = inr refl
 cast_form bits props (t ∷ []) [] = inr refl
 cast_form bits props (t ∷ []) (u ∷ v ∷ us) = inr refl
 
-bound_over : (rs : List ℕ) (ys : List Value) (env e : Env) (n : ℕ) → bind rs ys env ≡ Some e → has n rs ≡ false → lookup n env ≡ lookup n e
+pub bound_over : (rs : List ℕ) (ys : List Value) (env e : Env) (n : ℕ) → bind rs ys env ≡ Some e → has n rs ≡ false → lookup n env ≡ lookup n e
 bound_over [] [] env e n is apart = ap (lookup n) (some_same is)
 bound_over [] (y ∷ ys) env e n is apart = absurd (none_some is)
 bound_over (r ∷ rs) [] env e n is apart = absurd (none_some is)
@@ -85,7 +85,7 @@ cast_straight form (inr is) s = subst IsStructured is s
 -- What is asked of the source
 
 module _ (used : ℕ → Bool) where
-  abbrev Used : ℕ → Type 0
+  abbrev pub Used : ℕ → Type 0
   Used n = used n ≡ true
 
   abbrev mutual
@@ -105,9 +105,13 @@ module _ (used : ℕ → Bool) where
     BlocksReady end_of_blocks = Unit {0}
     BlocksReady (block label args ops more) = OpsReady ops × BlocksReady more
 
-  -- what is left out: casts none of whose results is used
-  abbrev pub left_out : Op → Bool
-  left_out o = is_cast o && not (list_any (λ r. used r.0) (results_of o))
+  -- what may be left out: casts none of whose results is used
+  abbrev pub Fair : (Op → Bool) → Type 0
+  Fair test = (o : Op) → test o ≡ true → (is_cast o ≡ true) × ((n : ℕ) → Used n → has n (numbers_in (results_of o)) ≡ false)
+
+  -- each of them
+  abbrev pub unused_cast : Op → Bool
+  unused_cast o = is_cast o && not (list_any (λ r. used r.0) (results_of o))
 
   none_used : (rs : Values) → list_any (λ r. used r.0) rs ≡ false → (n : ℕ) → Used n → has n (numbers_in rs) ≡ false
   none_used [] h n u = refl
@@ -123,87 +127,93 @@ module _ (used : ℕ → Bool) where
   not_true false h = refl
 
   -- the results of what is left out aren't used
-  results_unused : (k : Kind) (rs : Values) (os : List ℕ) (regions : Regions) (ls : List ℕ) → left_out (op k rs os regions ls) ≡ true → (n : ℕ) → Used n → has n (numbers_in rs) ≡ false
+  results_unused : (k : Kind) (rs : Values) (os : List ℕ) (regions : Regions) (ls : List ℕ) → unused_cast (op k rs os regions ls) ≡ true → (n : ℕ) → Used n → has n (numbers_in rs) ≡ false
   results_unused k rs os regions ls h = none_used rs (not_true (list_any (λ r. used r.0) rs) (and_right (is_cast (op k rs os regions ls)) _ h))
 
-  module _ (bits : ℕ) (ty ty' : ℕ → PlainType) (agree : (v : ℕ) → Used v → ty' v ≡ ty v) where
-    operands_same : (os : List ℕ) → Each Used os → map ty' os ≡ map ty os
-    operands_same [] each = refl
-    operands_same (o ∷ os) each = ap (λ t. t ∷ map ty' os) (agree o each.0) ∙ ap (λ ts. ty o ∷ ts) (operands_same os each.1)
+  pub fair_unused : Fair unused_cast
+  fair_unused (op k rs os regions ls) h = (and_left (is_cast (op k rs os regions ls)) _ h, results_unused k rs os regions ls h)
+
+  -- What is left where some are
+
+  module _ (left_out : Op → Bool) (fair : Fair left_out) where
+    module _ (bits : ℕ) (ty ty' : ℕ → PlainType) (agree : (v : ℕ) → Used v → ty' v ≡ ty v) where
+      operands_same : (os : List ℕ) → Each Used os → map ty' os ≡ map ty os
+      operands_same [] each = refl
+      operands_same (o ∷ os) each = ap (λ t. t ∷ map ty' os) (agree o each.0) ∙ ap (λ ts. ty o ∷ ts) (operands_same os each.1)
+
+      mutual
+        op_left : (o : Op) (rest : Ops) → OpReady o → (b : Bool) → left_out o ≡ b → (more more' : code.Ops) → SameOps Used more more'
+            → SameOps Used (op_codes bits ty o more) (if b then more' else op_codes bits ty' (op_without left_out o) more')
+        op_left (op k rs os regions ls) rest ready true is more more' same =
+            let form = cast_form bits k.props (map ty os) (types_in rs) in
+            let name = (bytes_eq-Decides k.name (codes "builtin.unrealized_conversion_cast")).0 (fair (op k rs os regions ls) is).0 in
+            let forms = subst (λ n. (form_at bits n k.props (map ty os) (types_in rs) ≡ Computes Moves) ⊎ (form_at bits n k.props (map ty os) (types_in rs) ≡ Unknown)) (sym name) form in
+            swaps [] (cast_straight (form_at bits k.name k.props (map ty os) (types_in rs)) forms)
+            (cast_computes Used (form_at bits k.name k.props (map ty os) (types_in rs)) (numbers_in rs) os ls (fair (op k rs os regions ls) is).1 forms) same
+        op_left (op k rs os regions ls) rest ready false is more more' same =
+            subst (λ ts. SameOps Used (code.Op (form_at bits k.name k.props ts (types_in rs)) (numbers_in rs) os ls (regions_codes bits ty regions) more)
+            (code.Op (form_at bits k.name k.props (map ty' os) (types_in rs)) (numbers_in rs) os ls (regions_codes bits ty' (regions_without left_out regions)) more')) (operands_same os ready.0)
+            (keeps ready.0 (regions_left regions ready.2) same)
+
+        ops_left : (os : Ops) → OpsReady os → SameOps Used (ops_codes bits ty os) (ops_codes bits ty' (ops_without left_out os))
+        ops_left end_of_ops ready = same_end
+        ops_left (more_ops o os) ready = by_test (left_out o) (op_left o os ready.0 (left_out o) refl (ops_codes bits ty os) (ops_codes bits ty' (ops_without left_out os)) (ops_left os ready.1))
+          where
+            by_test : (b : Bool) → SameOps Used (op_codes bits ty o (ops_codes bits ty os)) (if b then ops_codes bits ty' (ops_without left_out os) else op_codes bits ty' (op_without left_out o) (ops_codes bits ty' (ops_without left_out os)))
+                → SameOps Used (op_codes bits ty o (ops_codes bits ty os)) (ops_codes bits ty' (if b then ops_without left_out os else more_ops (op_without left_out o) (ops_without left_out os)))
+            by_test true h = h
+            by_test false h = h
+
+        pub regions_left : (rs : Regions) → RegionsReady rs → SameRegions Used (regions_codes bits ty rs) (regions_codes bits ty' (regions_without left_out rs))
+        regions_left end_of_regions ready = same_regions_end
+        regions_left (region blocks more) ready = same_region (entry_left blocks ready.0) (regions_left more ready.1)
+
+        entry_left : (bs : Blocks) → BlocksReady bs → SameEntry Used (blocks_codes bits ty bs) (blocks_codes bits ty' (blocks_without left_out bs))
+        entry_left end_of_blocks ready = same_entry_end
+        entry_left (block label args ops more) ready = same_entry (ops_left ops ready.0) (blocks_left more ready.1)
+
+        blocks_left : (bs : Blocks) → BlocksReady bs → SameBlocks Used (blocks_codes bits ty bs) (blocks_codes bits ty' (blocks_without left_out bs))
+        blocks_left end_of_blocks ready = same_blocks_end
+        blocks_left (block label args ops more) ready = same_block [] (restores_itself Used (numbers_in args)) (ops_left ops ready.0) (blocks_left more ready.1)
+
+    -- Types stay where they are used
+
+    type_over : (rs more : Values) (v : ℕ) → has v (numbers_in rs) ≡ false → type_in (rs ++ more) v ≡ type_in more v
+    type_over [] more v apart = refl
+    type_over (r ∷ rs) more v apart = let h = has_rest r.0 v (numbers_in rs) apart in ap (λ b. if b then r.1 else type_in (rs ++ more) v) h.0 ∙ type_over rs more v h.1
+
+    type_front : (rs more more' : Values) (v : ℕ) → type_in more' v ≡ type_in more v → type_in (rs ++ more') v ≡ type_in (rs ++ more) v
+    type_front [] more more' v same = same
+    type_front (r ∷ rs) more more' v same = ap (λ t. if r.0 == v then r.1 else t) (type_front rs more more' v same)
+
+    by_test : (o : Op) (os : Ops) (more more' : Values) (v : ℕ) → Used v → OpReady o → (b : Bool) → left_out o ≡ b
+        → type_in (ops_values (ops_without left_out os) more') v ≡ type_in (ops_values os more) v
+        → ((x x' : Values) → type_in x' v ≡ type_in x v → type_in (op_values (op_without left_out o) x') v ≡ type_in (op_values o x) v)
+        → type_in (ops_values (if b then ops_without left_out os else more_ops (op_without left_out o) (ops_without left_out os)) more') v ≡ type_in (op_values o (ops_values os more)) v
+    by_test (op k rs os1 regions ls) os more more' v u ready true is rest kept =
+        rest
+        ∙ sym (ap (λ r. type_in (rs ++ regions_values r (ops_values os more)) v) (ready.1 (fair (op k rs os1 regions ls) is).0) ∙ type_over rs (ops_values os more) v ((fair (op k rs os1 regions ls) is).1 v u))
+    by_test o os more more' v u ready false is rest kept = kept (ops_values os more) (ops_values (ops_without left_out os) more') rest
 
     mutual
-      op_left : (o : Op) (rest : Ops) → OpReady o → (b : Bool) → left_out o ≡ b → (more more' : code.Ops) → SameOps Used more more'
-          → SameOps Used (op_codes bits ty o more) (if b then more' else op_codes bits ty' (op_without left_out o) more')
-      op_left (op k rs os regions ls) rest ready true is more more' same =
-          let form = cast_form bits k.props (map ty os) (types_in rs) in
-          let name = (bytes_eq-Decides k.name (codes "builtin.unrealized_conversion_cast")).0 (and_left (is_cast (op k rs os regions ls)) _ is) in
-          let forms = subst (λ n. (form_at bits n k.props (map ty os) (types_in rs) ≡ Computes Moves) ⊎ (form_at bits n k.props (map ty os) (types_in rs) ≡ Unknown)) (sym name) form in
-          swaps [] (cast_straight (form_at bits k.name k.props (map ty os) (types_in rs)) forms)
-          (cast_computes Used (form_at bits k.name k.props (map ty os) (types_in rs)) (numbers_in rs) os ls (results_unused k rs os regions ls is) forms) same
-      op_left (op k rs os regions ls) rest ready false is more more' same =
-          subst (λ ts. SameOps Used (code.Op (form_at bits k.name k.props ts (types_in rs)) (numbers_in rs) os ls (regions_codes bits ty regions) more)
-          (code.Op (form_at bits k.name k.props (map ty' os) (types_in rs)) (numbers_in rs) os ls (regions_codes bits ty' (regions_without left_out regions)) more')) (operands_same os ready.0)
-          (keeps ready.0 (regions_left regions ready.2) same)
+      op_types : (o : Op) (more more' : Values) (v : ℕ) → Used v → OpReady o → type_in more' v ≡ type_in more v → type_in (op_values (op_without left_out o) more') v ≡ type_in (op_values o more) v
+      op_types (op k rs os regions ls) more more' v u ready same = type_front rs (regions_values regions more) (regions_values (regions_without left_out regions) more') v (regions_types regions more more' v u ready.2 same)
 
-      ops_left : (os : Ops) → OpsReady os → SameOps Used (ops_codes bits ty os) (ops_codes bits ty' (ops_without left_out os))
-      ops_left end_of_ops ready = same_end
-      ops_left (more_ops o os) ready = by_test (left_out o) (op_left o os ready.0 (left_out o) refl (ops_codes bits ty os) (ops_codes bits ty' (ops_without left_out os)) (ops_left os ready.1))
-        where
-          by_test : (b : Bool) → SameOps Used (op_codes bits ty o (ops_codes bits ty os)) (if b then ops_codes bits ty' (ops_without left_out os) else op_codes bits ty' (op_without left_out o) (ops_codes bits ty' (ops_without left_out os)))
-              → SameOps Used (op_codes bits ty o (ops_codes bits ty os)) (ops_codes bits ty' (if b then ops_without left_out os else more_ops (op_without left_out o) (ops_without left_out os)))
-          by_test true h = h
-          by_test false h = h
+      ops_types : (os : Ops) (more more' : Values) (v : ℕ) → Used v → OpsReady os → type_in more' v ≡ type_in more v → type_in (ops_values (ops_without left_out os) more') v ≡ type_in (ops_values os more) v
+      ops_types end_of_ops more more' v u ready same = same
+      ops_types (more_ops o os) more more' v u ready same =
+          by_test o os more more' v u ready.0 (left_out o) refl (ops_types os more more' v u ready.1 same) (λ x x' is. op_types o x x' v u ready.0 is)
 
-      pub regions_left : (rs : Regions) → RegionsReady rs → SameRegions Used (regions_codes bits ty rs) (regions_codes bits ty' (regions_without left_out rs))
-      regions_left end_of_regions ready = same_regions_end
-      regions_left (region blocks more) ready = same_region (entry_left blocks ready.0) (regions_left more ready.1)
+      regions_types : (rs : Regions) (more more' : Values) (v : ℕ) → Used v → RegionsReady rs → type_in more' v ≡ type_in more v → type_in (regions_values (regions_without left_out rs) more') v ≡ type_in (regions_values rs more) v
+      regions_types end_of_regions more more' v u ready same = same
+      regions_types (region blocks rest) more more' v u ready same =
+          blocks_types blocks (regions_values rest more) (regions_values (regions_without left_out rest) more') v u ready.0 (regions_types rest more more' v u ready.1 same)
 
-      entry_left : (bs : Blocks) → BlocksReady bs → SameEntry Used (blocks_codes bits ty bs) (blocks_codes bits ty' (blocks_without left_out bs))
-      entry_left end_of_blocks ready = same_entry_end
-      entry_left (block label args ops more) ready = same_entry (ops_left ops ready.0) (blocks_left more ready.1)
-
-      blocks_left : (bs : Blocks) → BlocksReady bs → SameBlocks Used (blocks_codes bits ty bs) (blocks_codes bits ty' (blocks_without left_out bs))
-      blocks_left end_of_blocks ready = same_blocks_end
-      blocks_left (block label args ops more) ready = same_block [] (restores_itself Used (numbers_in args)) (ops_left ops ready.0) (blocks_left more ready.1)
-
-  -- Types stay where they are used
-
-  type_over : (rs more : Values) (v : ℕ) → has v (numbers_in rs) ≡ false → type_in (rs ++ more) v ≡ type_in more v
-  type_over [] more v apart = refl
-  type_over (r ∷ rs) more v apart = let h = has_rest r.0 v (numbers_in rs) apart in ap (λ b. if b then r.1 else type_in (rs ++ more) v) h.0 ∙ type_over rs more v h.1
-
-  type_front : (rs more more' : Values) (v : ℕ) → type_in more' v ≡ type_in more v → type_in (rs ++ more') v ≡ type_in (rs ++ more) v
-  type_front [] more more' v same = same
-  type_front (r ∷ rs) more more' v same = ap (λ t. if r.0 == v then r.1 else t) (type_front rs more more' v same)
-
-  by_test : (o : Op) (os : Ops) (more more' : Values) (v : ℕ) → Used v → OpReady o → (b : Bool) → left_out o ≡ b
-      → type_in (ops_values (ops_without left_out os) more') v ≡ type_in (ops_values os more) v
-      → ((x x' : Values) → type_in x' v ≡ type_in x v → type_in (op_values (op_without left_out o) x') v ≡ type_in (op_values o x) v)
-      → type_in (ops_values (if b then ops_without left_out os else more_ops (op_without left_out o) (ops_without left_out os)) more') v ≡ type_in (op_values o (ops_values os more)) v
-  by_test (op k rs os1 regions ls) os more more' v u ready true is rest kept =
-      rest
-      ∙ sym (ap (λ r. type_in (rs ++ regions_values r (ops_values os more)) v) (ready.1 (and_left (is_cast (op k rs os1 regions ls)) _ is)) ∙ type_over rs (ops_values os more) v (results_unused k rs os1 regions ls is v u))
-  by_test o os more more' v u ready false is rest kept = kept (ops_values os more) (ops_values (ops_without left_out os) more') rest
-
-  mutual
-    op_types : (o : Op) (more more' : Values) (v : ℕ) → Used v → OpReady o → type_in more' v ≡ type_in more v → type_in (op_values (op_without left_out o) more') v ≡ type_in (op_values o more) v
-    op_types (op k rs os regions ls) more more' v u ready same = type_front rs (regions_values regions more) (regions_values (regions_without left_out regions) more') v (regions_types regions more more' v u ready.2 same)
-
-    ops_types : (os : Ops) (more more' : Values) (v : ℕ) → Used v → OpsReady os → type_in more' v ≡ type_in more v → type_in (ops_values (ops_without left_out os) more') v ≡ type_in (ops_values os more) v
-    ops_types end_of_ops more more' v u ready same = same
-    ops_types (more_ops o os) more more' v u ready same =
-        by_test o os more more' v u ready.0 (left_out o) refl (ops_types os more more' v u ready.1 same) (λ x x' is. op_types o x x' v u ready.0 is)
-
-    regions_types : (rs : Regions) (more more' : Values) (v : ℕ) → Used v → RegionsReady rs → type_in more' v ≡ type_in more v → type_in (regions_values (regions_without left_out rs) more') v ≡ type_in (regions_values rs more) v
-    regions_types end_of_regions more more' v u ready same = same
-    regions_types (region blocks rest) more more' v u ready same =
-        blocks_types blocks (regions_values rest more) (regions_values (regions_without left_out rest) more') v u ready.0 (regions_types rest more more' v u ready.1 same)
-
-    blocks_types : (bs : Blocks) (more more' : Values) (v : ℕ) → Used v → BlocksReady bs → type_in more' v ≡ type_in more v → type_in (blocks_values (blocks_without left_out bs) more') v ≡ type_in (blocks_values bs more) v
-    blocks_types end_of_blocks more more' v u ready same = same
-    blocks_types (block label args ops rest) more more' v u ready same =
-        type_front args (ops_values ops (blocks_values rest more)) (ops_values (ops_without left_out ops) (blocks_values (blocks_without left_out rest) more')) v
-        (ops_types ops (blocks_values rest more) (blocks_values (blocks_without left_out rest) more') v u ready.0 (blocks_types rest more more' v u ready.1 same))
+      blocks_types : (bs : Blocks) (more more' : Values) (v : ℕ) → Used v → BlocksReady bs → type_in more' v ≡ type_in more v → type_in (blocks_values (blocks_without left_out bs) more') v ≡ type_in (blocks_values bs more) v
+      blocks_types end_of_blocks more more' v u ready same = same
+      blocks_types (block label args ops rest) more more' v u ready same =
+          type_front args (ops_values ops (blocks_values rest more)) (ops_values (ops_without left_out ops) (blocks_values (blocks_without left_out rest) more')) v
+          (ops_types ops (blocks_values rest more) (blocks_values (blocks_without left_out rest) more') v u ready.0 (blocks_types rest more more' v u ready.1 same))
 
 -- In a function each operand counts as used
 
@@ -307,7 +317,8 @@ abbrev pub CastsBare : Op → Type 0
 CastsBare (op k results operands regions successors) = (is_cast (op k results operands regions successors) ≡ false) × RegionsCasts regions
 
 module _ (bits : ℕ) (m : PlainModule) where
-  abbrev Keeps : Op → Op → Type 0
+  -- a function may stand for another, between any others
+  abbrev pub Keeps : Op → Op → Type 0
   Keeps f g = (front back : List Op) → AgreesS bits (with_functions m (front ++ f ∷ back)) (with_functions m (front ++ g ∷ back))
 
   all_stay : (fs : List Op) → FunctionsChanged (plain_functions bits fs) (plain_functions bits fs)
@@ -323,38 +334,40 @@ module _ (bits : ℕ) (m : PlainModule) where
       subst (λ xs. AgreeFunctions xs (functions_of bits (module_tree (with_functions m gs)))) (sym (same_codes bits (with_functions m fs)))
       (subst (AgreeFunctions (plain_functions bits fs)) (sym (same_codes bits (with_functions m gs))) (changed_agree (plain_functions bits fs) (plain_functions bits gs) h))
 
-  keeps_self : (f : Op) → Keeps f f
+  pub keeps_self : (f : Op) → Keeps f f
   keeps_self f front back = agrees_with_itself bits (with_functions m (front ++ f ∷ back))
 
-  keeps_on : (f g h : Op) → Keeps f g → Keeps g h → Keeps f h
+  pub keeps_on : (f g h : Op) → Keeps f g → Keeps g h → Keeps f h
   keeps_on f g h a b front back = agreements_join bits (with_functions m (front ++ f ∷ back)) (with_functions m (front ++ g ∷ back)) (with_functions m (front ++ h ∷ back)) (a front back) (b front back)
 
+  -- casts may be left out where none of their results is used
+  module _ (used : ℕ → Bool) (test : Op → Bool) (fair : Fair used test) where
+    pub cut_keeps : (k : Kind) (rs : Values) (os : List ℕ) (regions : Regions) (ls : List ℕ) → RegionsReady used regions → Keeps (op k rs os regions ls) (op_without test (op k rs os regions ls))
+    cut_keeps k rs os regions ls ready front back =
+        agrees_by (front ++ f ∷ back) (front ++ g ∷ back) (front_stays front (f ∷ back) (g ∷ back)
+        (with_changed bits (first_region (regions_codes bits (types_of f) regions)) (first_region (regions_codes bits (types_of g) (regions_without test regions))) (Used used)
+        (first_same (regions_left used test fair bits (types_of f) (types_of g) agree regions ready)) (plain_functions bits back) (plain_functions bits back) (all_stay back) (entries_tree k.props)))
+      where
+        f : Op
+        f = op k rs os regions ls
+
+        g : Op
+        g = op_without test f
+
+        agree : (v : ℕ) → Used used v → types_of g v ≡ types_of f v
+        agree v u = type_front used test fair rs (regions_values regions []) (regions_values (regions_without test regions) []) v (regions_types used test fair regions [] [] v u ready refl)
+
   round_keeps : (f : Op) → CastsBare f → Keeps f (op_without (is_unused_cast (operations f)) f)
-  round_keeps (op k rs os regions ls) casts front back =
-      agrees_by (front ++ f ∷ back) (front ++ g ∷ back) (front_stays front (f ∷ back) (g ∷ back)
-      (with_changed bits (first_region (regions_codes bits (types_of f) regions)) (first_region (regions_codes bits (types_of g) (regions_without test regions))) (λ n. is_used (operations f) n ≡ true)
-      (first_same (regions_left (is_used (operations f)) bits (types_of f) (types_of g) agree regions ready)) (plain_functions bits back) (plain_functions bits back) (all_stay back) (entries_tree k.props)))
-    where
-      f : Op
-      f = op k rs os regions ls
-
-      test : Op → Bool
-      test = is_unused_cast (operations f)
-
-      g : Op
-      g = op_without test f
-
-      ready : RegionsReady (is_used (operations f)) regions
-      ready = regions_ready (is_used (operations f)) regions 1 [] casts.1 (λ v h. or_right (uses v (0, f)) _ h)
-
-      agree : (v : ℕ) → is_used (operations f) v ≡ true → types_of g v ≡ types_of f v
-      agree v u = type_front (is_used (operations f)) rs (regions_values regions []) (regions_values (regions_without test regions) []) v (regions_types (is_used (operations f)) regions [] [] v u ready refl)
+  round_keeps (op k rs os regions ls) casts =
+      let f : Op = op k rs os regions ls in
+      let used : ℕ → Bool = is_used (operations f) in
+      cut_keeps used (is_unused_cast (operations f)) (fair_unused used) k rs os regions ls (regions_ready used regions 1 [] casts.1 (λ v h. or_right (uses v (0, f)) _ h))
 
   still_bare : (test : Op → Bool) (f : Op) → CastsBare f → CastsBare (op_without test f)
   still_bare test (op k rs os regions ls) casts = (casts.0, regions_casts test regions casts.1)
 
   -- Round after round
-  rounds_keep : (room : ℕ) (f : Op) → CastsBare f → Keeps f (unused_left_out room f)
+  pub rounds_keep : (room : ℕ) (f : Op) → CastsBare f → Keeps f (unused_left_out room f)
   rounds_keep zero f casts = keeps_self f
   rounds_keep (suc room) f casts =
       by_bool (list_any (λ o. is_unused_cast (operations f) o.1) (operations f))
@@ -394,7 +407,7 @@ mutual
   blocks_fits f ty end_of_blocks fit = tt
   blocks_fits f ty (block label args ops more) fit = (ops_fits f ty ops fit.0, blocks_fits f ty more fit.1)
 
-function_bare : (c : Functions) (f : Op) → is_formed_function f ≡ true → SoundFunction c f → CastsBare f
+pub function_bare : (c : Functions) (f : Op) → is_formed_function f ≡ true → SoundFunction c f → CastsBare f
 function_bare c (op k rs os regions ls) formed sound =
     (no_cast (is_cast f) refl, regions_fits f (types_of f) regions (op_fit c f (types_of f) f None end_of_blocks [] end_of_ops [] sound).0.3)
   where

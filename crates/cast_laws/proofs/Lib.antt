@@ -1,0 +1,10 @@
+pub mod Doings
+pub mod Mapped
+pub mod Closed
+pub mod Agrees
+pub mod Everywhere
+pub mod OnePlace
+pub mod Levels
+pub mod Places
+pub mod Codes
+pub mod Pairs
