@@ -1,0 +1,10 @@
+use Rattle.std.proofs.Common.{ap, sym, ◌∙◌}
+use Rattle.plain_tree.proofs.TypeOpens.{plain-Int}
+use Rattle.pattern_model.specs.MemrefRows.{extract}
+use Rattle.row_drafts.specs.Writes.{behind}
+use Rattle.row_drafts.proofs.writer.Writer.extract_number.Goals as goal
+
+pub returns : goal.returns
+returns c = λ next.
+    sym (ap (λ t. behind c.args.self.now (extract c.args.from c.args.path.now t next)) (plain-Int c.args.bits))
+    ∙ c.in_ok-source.ensures next
