@@ -1,0 +1,4 @@
+pub mod TextLemmas
+pub mod StringLemmas
+pub mod ReadLemmas
+pub mod ApartLemmas

@@ -1,0 +1,3 @@
+pub mod AttrWords
+pub mod Readable
+pub mod Laws

@@ -1,0 +1,4 @@
+pub mod TextLemmas
+pub mod KindLemmas
+pub mod ReadLemmas
+pub mod ApartLemmas
