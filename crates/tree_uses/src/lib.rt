@@ -1,0 +1,8 @@
+//! Trees with other operands, and without some of the operations in them.
+#![tactic(auto)]
+
+mod edit;
+mod omits;
+
+pub use edit::op_edited;
+pub use omits::Omits;
