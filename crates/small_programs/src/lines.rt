@@ -3,8 +3,8 @@
 use sqlite_items::{Boxed, Items};
 use std::alloc::Global;
 use tree_model::{
-    AttrTree, BlockTree, Bytes, DictTree, Dim, FuncTree, ModuleTree, Name, NoMemory, OpTree,
-    RegionTree, TypeList, TypeTree, ValueList, entry, one,
+    AttrTree, BlockTree, Bytes, DictTree, Dim, DimList, FuncTree, ModuleTree, Name, NoMemory,
+    OpTree, RegionTree, TypeList, TypeTree, ValueList, entry, one,
 };
 
 /// A type of a value.
@@ -15,6 +15,12 @@ pub enum Ty {
     Ptr,
     /// A memref of one open dimension, of integers of this width.
     Memref(u32),
+    /// A memref of one dimension of this size, of integers of this width.
+    Sized(u64, u32),
+    /// A memref without dimensions, of an integer of this width.
+    Cell(u32),
+    /// The descriptor of a memref without dimensions: two pointers and an integer of 64 bits.
+    Descriptor,
 }
 
 /// What a property says.
@@ -31,6 +37,12 @@ pub enum Note<'a> {
     Segments(&'a [i64]),
     /// A word of an operation's promises.
     Promise(&'a [u8]),
+    /// A path of fields and places.
+    Position(&'a [i64]),
+    /// The width of the integers by which a pointer moves.
+    Element(u32),
+    /// The cases of a choice among regions.
+    Cases(&'a [i64]),
 }
 
 /// An operation: its name, its results with their types, its operands, what a property says, and its successors.
@@ -65,15 +77,27 @@ pub fn constant<'a>(name: &'a [u8], results: &'a [(u32, Ty)], value: i64, ty: Ty
     }
 }
 
+fn memref(alloc: Global, dims: DimList, width: u32) -> Result<TypeTree, NoMemory> {
+    let element = Boxed::new(alloc, TypeTree::Int(width))?;
+    Ok(TypeTree::Memref(dims, element))
+}
+
+fn descriptor(alloc: Global) -> Result<TypeTree, NoMemory> {
+    let mut fields = one(alloc, TypeTree::Ptr)?;
+    fields.push(TypeTree::Ptr)?;
+    fields.push(TypeTree::Int(64))?;
+    Ok(TypeTree::Struct(fields))
+}
+
 fn type_tree(alloc: Global, ty: Ty) -> Result<TypeTree, NoMemory> {
     match ty {
         Ty::Int(width) => Ok(TypeTree::Int(width)),
         Ty::Index => Ok(TypeTree::Index),
         Ty::Ptr => Ok(TypeTree::Ptr),
-        Ty::Memref(width) => {
-            let element = Boxed::new(alloc, TypeTree::Int(width))?;
-            Ok(TypeTree::Memref(one(alloc, Dim::Dynamic)?, element))
-        }
+        Ty::Memref(width) => memref(alloc, one(alloc, Dim::Dynamic)?, width),
+        Ty::Sized(size, width) => memref(alloc, one(alloc, Dim::Fixed(size))?, width),
+        Ty::Cell(width) => memref(alloc, Items::new(alloc), width),
+        Ty::Descriptor => descriptor(alloc),
     }
 }
 
@@ -99,6 +123,10 @@ fn promise(alloc: Global, word: &[u8]) -> Result<AttrTree, NoMemory> {
     Ok(AttrTree::Dialect(dialect, words))
 }
 
+fn numbers(alloc: Global, width: u32, list: &[i64]) -> Result<AttrTree, NoMemory> {
+    Ok(AttrTree::Ints(width, Items::from_slice(alloc, list)?))
+}
+
 fn properties(alloc: Global, note: Note<'_>) -> Result<DictTree, NoMemory> {
     match note {
         Note::Nothing => Ok(Items::new(alloc)),
@@ -115,10 +143,15 @@ fn properties(alloc: Global, note: Note<'_>) -> Result<DictTree, NoMemory> {
             entry(alloc, b"callee", AttrTree::Symbol(name))
         }
         Note::Segments(counts) => {
-            let counts = Items::from_slice(alloc, counts)?;
-            entry(alloc, b"operandSegmentSizes", AttrTree::Ints(32, counts))
+            entry(alloc, b"operandSegmentSizes", numbers(alloc, 32, counts)?)
         }
         Note::Promise(word) => entry(alloc, b"overflowFlags", promise(alloc, word)?),
+        Note::Position(path) => entry(alloc, b"position", numbers(alloc, 64, path)?),
+        Note::Element(width) => {
+            let element = AttrTree::OfType(TypeTree::Int(width));
+            entry(alloc, b"elem_type", element)
+        }
+        Note::Cases(cases) => entry(alloc, b"cases", numbers(alloc, 64, cases)?),
     }
 }
 
@@ -162,10 +195,15 @@ pub fn block(
 /// The operation of a line that holds a region of one block.
 pub fn holding(alloc: Global, line: &Line<'_>, block: BlockTree) -> Result<OpTree, NoMemory> {
     let mut holder = op(alloc, line)?;
-    holder.regions.push(RegionTree {
-        blocks: one(alloc, block)?,
-    })?;
+    hold(alloc, &mut holder, block)?;
     Ok(holder)
+}
+
+/// Another region of one block for an operation.
+pub fn hold(alloc: Global, holder: &mut OpTree, block: BlockTree) -> Result<(), NoMemory> {
+    let blocks = one(alloc, block)?;
+    holder.regions.push(RegionTree { blocks })?;
+    Ok(())
 }
 
 fn func_props(

@@ -1,7 +1,7 @@
 //! Programs with loops of the structured level.
 
 use crate::lines::{
-    Line, Note, Ty, add, block, constant, declared, defined, holding, module, plain,
+    Line, Note, Ty, add, block, constant, declared, defined, hold, holding, module, plain,
 };
 use std::alloc::Global;
 use tree_model::{ModuleTree, NoMemory, one};
@@ -29,6 +29,25 @@ pub fn loop_by(alloc: Global, step: i64) -> Result<ModuleTree, NoMemory> {
     entry.ops.push(holding(alloc, &holder, body)?)?;
     add(alloc, &mut entry, &[plain(b"func.return", &[], &[4])])?;
     module(alloc, defined(alloc, b"f", &[], &[I], one(alloc, entry)?)?)
+}
+
+/// A function `f` that counts from its first argument to its second by its third, all of this type, and returns the number of rounds.
+pub fn counted(alloc: Global, ty: Ty) -> Result<ModuleTree, NoMemory> {
+    let round = [
+        plain(b"arith.addi", &[(11, I)], &[10, 4]),
+        plain(b"scf.yield", &[], &[11]),
+    ];
+    let body = block(alloc, 1, &[(9, ty), (10, I)], &round)?;
+    let first = [
+        constant(b"arith.constant", &[(3, I)], 0, I),
+        constant(b"arith.constant", &[(4, I)], 1, I),
+    ];
+    let mut entry = block(alloc, 0, &[(0, ty), (1, ty), (2, ty)], &first)?;
+    let holder = plain(b"scf.for", &[(5, I)], &[0, 1, 2, 3]);
+    entry.ops.push(holding(alloc, &holder, body)?)?;
+    add(alloc, &mut entry, &[plain(b"func.return", &[], &[5])])?;
+    let body = one(alloc, entry)?;
+    module(alloc, defined(alloc, b"f", &[ty, ty, ty], &[I], body)?)
 }
 
 /// A function `f` that counts from 0 to its argument by 1 and makes three additions in each round.
@@ -71,9 +90,7 @@ fn while_ticks(alloc: Global) -> Result<tree_model::OpTree, NoMemory> {
     let before = block(alloc, 2, &[(20, I)], &test)?;
     let mut holder = holding(alloc, &plain(b"scf.while", &[(26, I)], &[5]), before)?;
     let after = block(alloc, 3, &[(23, I)], &round)?;
-    holder.regions.push(tree_model::RegionTree {
-        blocks: one(alloc, after)?,
-    })?;
+    hold(alloc, &mut holder, after)?;
     Ok(holder)
 }
 

@@ -1,19 +1,18 @@
 -- An operation with regions comes to the same at every state of the memory, and another one is what it does.
-use Rattle.std.proofs.Common.{◌≡◌, ℕ, List, [], ◌∷◌, Bool, true, false, Option, Some, None, ℤ, refl, sym, ap, ◌∙◌, true≢false}
+use Rattle.std.proofs.Common.{◌≡◌, ℕ, List, [], ◌∷◌, Bool, true, false, ℤ, refl, sym, ap, true≢false}
 use Rattle.number_model.specs.Answers.{Answer, Gives, present}
 use Rattle.number_model.specs.Answers.{Answer as answer}
 use Rattle.operation_model.specs.Values.{Value, Integer, number}
 use Rattle.operation_model.specs.Pures.{truth}
-use Rattle.operation_model.specs.Doings.{Doing, Question}
-use Rattle.operation_model.specs.Doings.{Doing as doing}
+use Rattle.operation_model.specs.Doings.{Question}
 use Rattle.operation_model.specs.Forms.{Form, If, For, While, Switch, Execute, Yield, Condition, Computes, Branch, BranchOn, Call, Return, Load, Store, Allocate, AllocateAligned, Free, NewMemref, EndMemref, LoadElement, StoreElement, Unknown}
 use Rattle.operation_model.specs.Straight.{does}
-use Rattle.form_model.specs.Codes.{Blocks, BlocksEnd, Block, Regions, Env, Target, entry, bind, region_at, find_block}
-use Rattle.machine_model.specs.Worlds.{Reply, Answers, Refuses}
+use Rattle.form_model.specs.Codes.{Blocks, BlocksEnd, Block, Regions, Env, Target, entry, bind, region_at}
+use Rattle.machine_model.specs.Worlds.{Reply}
 use Rattle.machine_model.specs.Machine as model
 use Rattle.machine_model.specs.Machine.{Frame, Once, Body, Before, After, Behind, Counting, Looping, Step, Place, stepping, counts, case_of, first_if, next_number, has_round}
-use Rattle.frame_code.specs.Frames.{Move, goes_to, moves, has_regions, nothing_asked}
-use Rattle.step_code.specs.Turns.{at_state, ends, after, made, memref_behind, jumps_to, performed}
+use Rattle.frame_code.specs.Frames.{Move, moves, has_regions}
+use Rattle.step_code.specs.Turns.{at_state, performed}
 
 stepping_at : {A S : Type 0} (s : S) (a : Answer A) (f : A → Step Place S) (g : A → Move) → ((x : A) → f x ≡ at_state s (g x)) → stepping a s f ≡ at_state s (stepping a tt g)
 stepping_at s (Gives x) f g h = h x

@@ -1,10 +1,10 @@
 -- Finding a block by its label.
-use Rattle.std.proofs.Common.{◌≡◌, ℕ, zero, suc, ◌+◌, ◌≤◌, List, [], ◌∷◌, length, drop, Bool, true, false, Option, Some, None, refl, sym, ap, subst, ◌∙◌, ⊎_elim, cond, ◌==◌}
+use Rattle.std.proofs.Common.{◌≡◌, ℕ, ◌+◌, ◌≤◌, List, ◌∷◌, length, drop, Some, None, sym, ap, ◌∙◌, ⊎_elim, cond, ◌==◌}
 use Rattle.std.specs.List.{slice_get}
 use Rattle.std.proofs.lemmas.Bool.Decides.{eqb_tells}
-use Rattle.form_model.specs.Codes.{Blocks, BlocksEnd, Target, find_block}
+use Rattle.form_model.specs.Codes.{find_block}
 use Rattle.run_code.specs.declared.function.Block.{Block, out-Block}
-use Rattle.run_code.specs.Views.{ops_of, blocks_of}
+use Rattle.run_code.specs.Views.{blocks_of}
 use Rattle.run_code.proofs.Shapes.{block_is}
 use Rattle.table_code.proofs.TableLaws.{drop_at, drop_whole}
 use Rattle.frame_code.specs.Frames.{target_of}

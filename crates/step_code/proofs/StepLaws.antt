@@ -1,12 +1,12 @@
 -- Descriptors, and a step by the operation ahead.
-use Rattle.std.proofs.Common.{◌≡◌, ℕ, zero, suc, List, [], ◌∷◌, ◌++◌, true, false, arith, map, length, Option, Some, None, refl, sym, ap, ap₂, subst, ◌∙◌, append_assoc}
+use Rattle.std.proofs.Common.{◌≡◌, ℕ, List, [], ◌∷◌, ◌++◌, true, false, arith, length, Option, Some, None, refl, sym, ap, ap₂, subst, ◌∙◌, append_assoc}
 use Rattle.std.proofs.lemmas.List.{map-append}
 use Rattle.number_model.specs.Answers.{present}
 use Rattle.operation_model.specs.Values as values
 use Rattle.operation_model.specs.Doings.{Doing, Question}
 use Rattle.operation_model.specs.Forms as forms
 use Rattle.operation_model.specs.Straight.{does}
-use Rattle.form_model.specs.Codes.{Ops, Blocks, Regions, Env, lookups}
+use Rattle.form_model.specs.Codes.{Regions, Env, lookups}
 use Rattle.machine_model.specs.Worlds.{Reply, Outside}
 use Rattle.machine_model.specs.Machine as model
 use Rattle.machine_model.specs.Machine.{Frame, Behind, Step, Place}
@@ -16,11 +16,13 @@ use Rattle.run_code.specs.declared.function.Operation.{Operation, out-Operation}
 use Rattle.run_code.specs.Views.{form_of, ops_of, blocks_of, regions_of}
 use Rattle.run_code.proofs.Shapes.{op_is}
 use Rattle.table_code.specs.Agreement.{Agrees}
+use Rattle.doing_code.specs.declared.kinds.Doing as code
+use Rattle.doing_code.specs.Doings.{Does}
 use Rattle.frame_code.specs.declared.frame.Place.{Place as CodePlace}
 use Rattle.frame_code.specs.declared.frame.Moving.{Moving}
 use Rattle.frame_code.specs.Frames.{Move, Moved, MovedIf, has_regions, moves, frames_of, place_of}
 use Rattle.step_code.specs.declared.turns.Turn.{Turn}
-use Rattle.step_code.specs.Turns.{Stepped, Stopped, turn_of, descriptor_at, performed}
+use Rattle.step_code.specs.Turns.{Paired, Stepped, Stopped, turn_of, descriptor_at, performed}
 use Rattle.step_code.proofs.ActLaws.{with_regions, without_regions}
 use Rattle.step_code.proofs.TurnLaws.{stepped_move}
 
@@ -73,6 +75,22 @@ step_is ask s p op rest env e =
 pub stepped_on : {M S : Type 0} (stands : M → S → Type 0) (t : Turn) (new : CodePlace) (m : M) (s : S) (o : Option (List values.Value)) (xs : List values.Value) (next : List values.Value → Step Place S) (step : Step Place S)
     → Some xs ≡ o → step ≡ model.stepping (present o) s next → Stepped stands t new m (next xs) → Stepped stands t new m step
 stepped_on stands t new m s o xs next step e is h = subst (Stepped stands t new m) (ap (λ x. model.stepping (present x) s next) e ∙ sym is) h
+
+-- an operation without regions whose operands have values, and which does this
+pub stepped_pair : {M S : Type 0} (stands : M → S → Type 0) (ask : Question → S → Reply S) (t : Turn) (old new : CodePlace) (m : M) (s : S) (op : Operation) (rest : List Operation) (d : code.Doing) (rs : List ℕ) (env : Env)
+    → old.ops.now ≡ op ∷ rest → rs ≡ (out-Operation op).results → Paired d op env
+    → ((e : Doing) → Does d e → Stepped stands t new m (performed ask e (record { results = rs; rest = ops_of rest; blocks = blocks_of old.blocks.now }) env (frames_of old) s))
+    → Stepped stands t new m (model.step ask (place_of old env) s)
+stepped_pair stands ask t old new m s op rest d rs env at same p next =
+    stepped_on stands t new m s (lookups (out-Operation op).operands env) p.xs
+    (λ xs. model.acts ask (form_of (out-Operation op).form) (out-Operation op).results xs (out-Operation op).successors (regions_of (out-Operation op).regions) (record { results = (out-Operation op).results; rest = ops_of rest; blocks = blocks_of old.blocks.now }) env (frames_of old) s)
+    (model.step ask (place_of old env) s) p.are (step_is ask s old op rest env at)
+    (subst
+    (λ r. Stepped stands t new m (model.acts ask (form_of (out-Operation op).form) r p.xs (out-Operation op).successors (regions_of (out-Operation op).regions) (record { results = r; rest = ops_of rest; blocks = blocks_of old.blocks.now }) env (frames_of old) s))
+    same
+    (subst (Stepped stands t new m)
+    (sym (without_regions ask s (form_of (out-Operation op).form) rs p.xs (out-Operation op).successors (regions_of (out-Operation op).regions) (record { results = rs; rest = ops_of rest; blocks = blocks_of old.blocks.now }) env (frames_of old) p.alone refl))
+    (next (does (form_of (out-Operation op).form) (out-Operation op).successors p.xs) p.does)))
 
 pub stopped_there : {S : Type 0} (s : S) (o : Option (List values.Value)) (next : List values.Value → Step Place S) (step : Step Place S)
     → None ≡ o → step ≡ model.stepping (present o) s next → Stopped Outside step

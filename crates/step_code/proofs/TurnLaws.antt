@@ -1,5 +1,5 @@
 -- What is done, as a turn.
-use Rattle.std.proofs.Common.{◌≡◌, ℕ, List, [], ◌∷◌, length, Bool, true, false, Option, Some, None, refl, min, ◌^◌, sym, ap, subst, ◌∙◌}
+use Rattle.std.proofs.Common.{◌≡◌, ℕ, List, [], ◌∷◌, length, Option, Some, None, refl, min, ◌^◌, sym, ap, subst, ◌∙◌}
 use Rattle.number_model.specs.Answers.{present}
 use Rattle.operation_model.specs.Values as values
 use Rattle.operation_model.specs.Doings.{Doing, Question}
@@ -11,14 +11,13 @@ use Rattle.machine_model.specs.Worlds.{Stop}
 use Rattle.machine_model.specs.Machine as model
 use Rattle.machine_model.specs.Machine.{Frame, Behind, Step, Place}
 use Rattle.table_code.specs.Agreement.{Agrees}
-use Rattle.doing_code.specs.Doings.{made_at, Asked, Does, answered}
+use Rattle.doing_code.specs.Doings.{made_at, Asked}
 use Rattle.frame_code.specs.declared.frame.Place.{Place as CodePlace}
 use Rattle.frame_code.specs.declared.frame.Moving.{Moving}
 use Rattle.frame_code.specs.declared.frame.Moving.TheVariants as moving
 use Rattle.frame_code.specs.Frames.{Move, Moved, goes_to, place_of}
 use Rattle.step_code.specs.declared.turns.Turn.{Turn}
-use Rattle.step_code.specs.declared.turns.Turn.TheVariants as turn
-use Rattle.step_code.specs.Turns.{place_behind, Called, Stepped, WentOn, Stopped, turn_of, at_state, ends, after, made, memref_behind, jumps_to, performed}
+use Rattle.step_code.specs.Turns.{place_behind, Called, Stepped, turn_of, at_state, ends, after, made, memref_behind, jumps_to, performed}
 
 pub stepped_move : {M S : Type 0} (stands : M → S → Type 0) (mv : Moving) (p : CodePlace) (m : M) (s : S) (u : Move) (step : Step Place S)
     → Moved mv p u → stands m s → step ≡ at_state s u → Stepped stands (turn_of mv) p m step

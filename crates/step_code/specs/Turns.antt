@@ -1,22 +1,24 @@
 -- What a turn of the code stands for.
-use Rattle.std.specs.Prelude.{◌≡◌, ℕ, List, [], ◌∷◌, length, Option, Some, None}
+use Rattle.std.specs.Prelude.{◌≡◌, ℕ, false, List, [], ◌∷◌, length, Some}
 use Rattle.number_model.specs.Answers.{present}
 use Rattle.operation_model.specs.Values as values
 use Rattle.operation_model.specs.Doings.{Doing, Question}
-use Rattle.operation_model.specs.Doings.{Doing as doing}
-use Rattle.form_model.specs.Codes.{Blocks, Env, find_block}
+use Rattle.operation_model.specs.Straight.{does}
+use Rattle.form_model.specs.Codes.{Blocks, Env, find_block, lookups}
 use Rattle.machine_model.specs.Worlds.{Reply, Answers, Refuses}
 use Rattle.machine_model.specs.Worlds.{Stop as stop}
 use Rattle.machine_model.specs.Worlds as worlds
 use Rattle.machine_model.specs.Machine as model
-use Rattle.run_code.specs.Views.{packing_of}
+use Rattle.run_code.specs.declared.function.Operation.{Operation, out-Operation}
+use Rattle.run_code.specs.Views.{form_of, packing_of}
 use Rattle.value_code.specs.Models.{values_of}
 use Rattle.table_code.specs.Agreement.{Agrees}
-use Rattle.doing_code.specs.Doings.{answered}
+use Rattle.doing_code.specs.declared.kinds.Doing as code
+use Rattle.doing_code.specs.Doings.{Does, answered}
 use Rattle.frame_code.specs.declared.frame.Place.{Place}
 use Rattle.frame_code.specs.declared.frame.Moving.{Moving}
 use Rattle.frame_code.specs.declared.frame.Moving.TheVariants as moving
-use Rattle.frame_code.specs.Frames.{Move, goes_to, place_of}
+use Rattle.frame_code.specs.Frames.{Move, goes_to, has_regions, place_of}
 use Rattle.step_code.specs.declared.turns.Stop.{Stop}
 use Rattle.step_code.specs.declared.turns.Stop.TheVariants as code_stop
 use Rattle.step_code.specs.declared.turns.Turn.{Turn}
@@ -73,6 +75,13 @@ jumps_to l ys blocks env frames = model.stepping (present (find_block l blocks))
 abbrev pub performed : {S : Type 0} → (Question → S → Reply S) → Doing → model.Behind → Env → List model.Frame → S → model.Step model.Place S
 performed ask d b env frames s =
     model.within frames (model.performs ask d b.results (record { ops = b.rest; blocks = b.blocks; env = env }) s)
+
+-- What is done by an operation without regions, whose operands have values. No list of them is made.
+pub record Paired (d : code.Doing) (op : Operation) (env : Env) : Type 0 where
+  pub xs : List values.Value
+  pub are : Some xs ≡ lookups (out-Operation op).operands env
+  pub alone : has_regions (form_of (out-Operation op).form) ≡ false
+  pub does : Does d (does (form_of (out-Operation op).form) (out-Operation op).successors xs)
 
 -- What a place and a memory of the code have come to, against a step of the definition. Where the run stops, nothing more is said of
 -- them, and where the function returns nothing of the place.

@@ -1,6 +1,7 @@
 //! One step of a run, in code.
 #![tactic(auto)]
 
+mod pairs;
 mod perform;
 mod replies;
 mod steps;

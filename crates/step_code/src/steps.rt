@@ -8,11 +8,12 @@ ghost use Rattle.run_code.specs.Views.{form_of, regions_of};
 ghost use Rattle.run_code.specs.declared.function.Operation.{out-Operation};
 ghost use Rattle.table_code.specs.Agreement.{Agrees};
 ghost use Rattle.frame_code.specs.Frames.{behind_of, frames_of, place_of};
-ghost use Rattle.step_code.specs.Turns.{Stepped};
+ghost use Rattle.step_code.specs.Turns.{Paired, Stepped};
 
+use crate::pairs::pair_doing;
 use crate::perform::perform;
 use crate::turns::{Stop, Turn, turned};
-use doing_code::doing_of;
+use doing_code::{Doing, doing_of};
 use frame_code::{Behind, Place, moved};
 use memory_code::Memory;
 use run_code::Operation;
@@ -59,7 +60,26 @@ fn act<'a, M: Memory>(
     }
 }
 
-/// What an operation comes to.
+/// What an operation comes to that does this, with no operands at hand.
+fn step_with<'a, M: Memory>(
+    alloc: Global,
+    place: &mut Place<'a>,
+    memory: &mut M,
+    ahead: Ahead<'a>,
+    doing: Doing<'a>,
+) -> Result<Turn<'a>, AllocError>
+    ensures { IfOk result (λ t. (s : M.State) → M.Stands memory.old s → (env : Env) → Agrees place.old.table env → place.old.ops.now ≡ ahead.entry.op.now ∷ ahead.entry.rest.now → Paired doing.entry ahead.entry.op.now env → Stepped M.Stands t place.new memory.new
+        (model.step M.ask (place_of place.old env) s)) }
+{
+    let behind = Behind {
+        results: ahead.op.results.as_slice(),
+        rest: ahead.rest,
+        blocks: place.blocks,
+    };
+    Ok(perform(alloc, place, memory, behind, doing)?)
+}
+
+/// What an operation comes to, with a list of its operands.
 fn step_on<'a, M: Memory>(
     alloc: Global,
     place: &mut Place<'a>,
@@ -91,7 +111,10 @@ pub fn step<'a, M: Memory>(
         (model.step M.ask (place_of place.old env) s)) }
 {
     match next_of(place.ops) {
-        Some(ahead) => Ok(step_on(alloc, place, memory, ahead)?),
+        Some(ahead) => match pair_doing(&place.table, ahead.op) {
+            Some(doing) => Ok(step_with(alloc, place, memory, ahead, doing)?),
+            None => Ok(step_on(alloc, place, memory, ahead)?),
+        },
         None => Ok(Turn::Stops(Stop::Outside)),
     }
 }

@@ -1,7 +1,6 @@
-use Rattle.std.proofs.Common.{◌≡◌, length, Some, refl, arith}
+use Rattle.std.proofs.Common.{◌≡◌, length, Some, refl}
 use Rattle.std.specs.List.{slice_get}
 use Rattle.std.proofs.lemmas.Option.{slice_get_read}
-use Rattle.run_code.specs.declared.function.Block.{Block}
 use Rattle.step_code.proofs.FindLaws.{block_found, block_passed, block_absent}
 use Rattle.step_code.proofs.perform.find_block.Goals as goal
 

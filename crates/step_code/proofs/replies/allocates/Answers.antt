@@ -1,4 +1,4 @@
-use Rattle.std.proofs.Common.{◌≡◌, sym, subst, ◌∷◌, [], Some}
+use Rattle.std.proofs.Common.{sym, subst, ◌∷◌, [], Some}
 use Rattle.operation_model.specs.Values as values
 use Rattle.operation_model.specs.Doings.{Allocate}
 use Rattle.value_code.proofs.Shapes.{value_of-Pointer}

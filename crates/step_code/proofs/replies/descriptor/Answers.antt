@@ -1,4 +1,4 @@
-use Rattle.std.proofs.Common.{◌≡◌, ◌++◌, true≢false, ◌∷◌, [], length, sym, ap, ◌∙◌, arith}
+use Rattle.std.proofs.Common.{◌++◌, true≢false, ◌∷◌, [], length, sym, ap, ◌∙◌}
 use Rattle.operation_model.specs.Values as values
 use Rattle.value_code.specs.Models.{pointer_at, values_of}
 use Rattle.value_code.proofs.Shapes.{value_of-Aggregate}

@@ -1,9 +1,9 @@
-use Rattle.std.proofs.Common.{◌≡◌, refl, sym, subst, ap, ap₂, ◌∙◌}
+use Rattle.std.proofs.Common.{refl, sym, subst, ap}
 use Rattle.operation_model.specs.Straight.{does}
 use Rattle.run_code.specs.declared.function.Operation.{out-Operation}
 use Rattle.run_code.specs.Views.{form_of, regions_of}
 use Rattle.value_code.specs.Models.{values_of}
-use Rattle.frame_code.specs.Frames.{MovedIf, behind_of, frames_of, moves}
+use Rattle.frame_code.specs.Frames.{behind_of, frames_of}
 use Rattle.machine_model.specs.Machine as model
 use Rattle.step_code.specs.Turns.{Stepped}
 use Rattle.step_code.proofs.StepLaws.{act_moved, act_performed}

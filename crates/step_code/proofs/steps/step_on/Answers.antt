@@ -1,4 +1,4 @@
-use Rattle.std.proofs.Common.{◌≡◌, Some, None, sym, subst, ap, ap₂, ◌∙◌}
+use Rattle.std.proofs.Common.{sym, subst, ap, ◌∙◌}
 use Rattle.form_model.specs.Codes.{lookups}
 use Rattle.run_code.specs.declared.function.Operation.{out-Operation}
 use Rattle.run_code.specs.Views.{form_of, ops_of, blocks_of, regions_of}
