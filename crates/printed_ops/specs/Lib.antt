@@ -1,0 +1,3 @@
+pub mod OpWords
+pub mod Named
+pub mod Laws
