@@ -359,4 +359,3 @@ module _ (u w r : ℕ) (w_apart : (u == w) ≡ false) (r_apart : (u == r) ≡ fa
           first = target_tied t b at ok rest_ok over among w ys env e (λ l k. k) (target_fit t b at ok rest_ok over among).first good.first is;
           last = target_tied t b at ok rest_ok over among r ys env e (last_through (record { blocks = bs; label = t; bound = numbers b.args; ops = b.ops } ∷ outer)) (target_fit t b at ok rest_ok over among).last good.last is;
         }
-
