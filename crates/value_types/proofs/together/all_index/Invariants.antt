@@ -1,0 +1,8 @@
+use Rattle.std.proofs.Common.{◌≡◌, drop}
+use Rattle.std.specs.List.{list_all}
+use Rattle.rule_model.specs.Forms.{is_index}
+use Rattle.value_types.specs.Views.{plain_types}
+use Rattle.value_types.proofs.together.all_index.Given as goal
+
+abbrev pub invariant-loop-t : goal.invariant-loop-t
+invariant-loop-t l = list_all is_index (plain_types (drop l.t-index l.types)) ≡ list_all is_index (plain_types l.types)

@@ -1,0 +1,5 @@
+use Rattle.value_types.proofs.SameTypes.{other_types}
+use Rattle.value_types.proofs.together.same_all.Goals as goal
+
+pub returns-then-types-others : goal.returns-then-types-others
+returns-then-types-others c = other_types c.args.types.now c.args.others.now c.if-types-others.true
