@@ -1,14 +1,12 @@
 -- A function stays closed where what is written names something.
-use Rattle.std.proofs.Common.{◌≡◌, ℕ, zero, suc, ◌<◌, ◌≤◌, ◌+◌, ◌-◌, ◌⊎◌, inl, inr, List, [], ◌∷◌, ◌++◌, length, get_or, set, take, drop, refl, sym, ap, subst, ◌∙◌, arith}
+use Rattle.std.proofs.Common.{◌≡◌, ℕ, zero, suc, ◌<◌, ◌≤◌, ◌+◌, List, [], ◌∷◌, ◌++◌, length, get_or, set, arith}
 use Rattle.std.specs.Prelude.{insert, remove}
-use Rattle.std.specs.List.{All}
-use Rattle.std.proofs.lemmas.List.{length_push, length-append, length-set, get_or-set_same, get_or-set_other, get_or_append_left}
-use Rattle.std.proofs.lemmas.Bool.{cases_eq}
+use Rattle.std.proofs.lemmas.List.{length_push, length-append, length-set}
 use Rattle.key_model.specs.declared.handle.Handle.{Handle}
 use Rattle.flat_model.specs.declared.nodes.OpNode.{OpNode}
-use Rattle.flat_model.specs.Flat.{BlockNode, Flat, no_op, no_block, op_at, block_at, blocks_at, AllBelow, IsOpWithin, IsBlockWithin, IsWithin, IsClosed}
+use Rattle.flat_model.specs.Flat.{BlockNode, Flat, no_op, no_block, op_at, block_at, blocks_at, AllBelow, IsOpWithin, IsBlockWithin, IsClosed}
 use Rattle.flat_model.proofs.PushLaws.{below_more, op_within_more, block_within_more}
-use Rattle.edit_model.specs.Writes.{with_ops, with_operand, with_op}
+use Rattle.edit_model.specs.Writes.{with_ops, with_operand, with_op, with_args, with_blocks, with_node, with_value, with_block}
 
 below_nil : (m : ℕ) → AllBelow m []
 below_nil m k d h = absurd (omega arith)
@@ -93,4 +91,70 @@ closed_op f node types c w = let g : Flat = with_op f node types in let v = leng
         region = c.within.region;
       };
       root = let r = c.root in omega arith;
+    }
+
+-- the numbers of an operation, in more nodes
+within_more : (f g : Flat) → length f.types ≤ length g.types → length f.blocks ≤ length g.blocks → length f.regions ≤ length g.regions → (node : OpNode)
+    → IsOpWithin (length f.types) (length f.blocks) f node → IsOpWithin (length g.types) (length g.blocks) g node
+within_more f g t b r node w = record {
+  results = below_more (length f.types) (length g.types) t node.results w.results;
+  operands = below_more (length f.types) (length g.types) t node.operands w.operands;
+  regions = below_more (length f.regions) (length g.regions) r node.regions w.regions;
+  successors = below_more (length f.blocks) (length g.blocks) b node.successors w.successors;
+}
+
+pub closed_args : (f : Flat) (block : ℕ) (xs : List ℕ) → IsClosed f → block < length f.blocks → AllBelow (length f.types) xs → IsClosed (with_args f block xs)
+closed_args f block xs c h a = let node : BlockNode = record (block_at f block) { args = xs } in let g : Flat = with_args f block xs in
+    let e : length g.blocks ≡ length f.blocks = length-set f.blocks block node in record {
+      within = record {
+        op = λ i k. within_more f g (omega arith) (omega arith) (omega arith) (op_at f i) (c.within.op i k);
+        block = at_set (IsBlockWithin g) f.blocks block node no_block (λ i k. block_within_more f g (omega arith) (omega arith) (block_at f i) (c.within.block i k)) (record { args = a; ops = (c.within.block block h).ops });
+        region = λ r k. below_more (length f.blocks) (length g.blocks) (omega arith) (blocks_at f r) (c.within.region r k);
+      };
+      root = c.root;
+    }
+
+pub closed_blocks : (f : Flat) (region : ℕ) (xs : List ℕ) → IsClosed f → AllBelow (length f.blocks) xs → IsClosed (with_blocks f region xs)
+closed_blocks f region xs c a = let g : Flat = with_blocks f region xs in
+    let e : length g.regions ≡ length f.regions = length-set f.regions region xs in record {
+      within = record {
+        op = λ i k. within_more f g (omega arith) (omega arith) (omega arith) (op_at f i) (c.within.op i k);
+        block = λ i k. block_within_more f g (omega arith) (omega arith) (block_at f i) (c.within.block i k);
+        region = at_set (AllBelow (length f.blocks)) f.regions region xs [] c.within.region a;
+      };
+      root = c.root;
+    }
+
+pub closed_node : (f : Flat) (op : ℕ) (node : OpNode) → IsClosed f → IsOpWithin (length f.types) (length f.blocks) f node → IsClosed (with_node f op node)
+closed_node f op node c w = let g : Flat = with_node f op node in
+    let e : length g.ops ≡ length f.ops = length-set f.ops op node in record {
+      within = record {
+        op = at_set (IsOpWithin (length f.types) (length f.blocks) g) f.ops op node no_op
+            (λ i k. within_more f g (omega arith) (omega arith) (omega arith) (op_at f i) (c.within.op i k)) (within_more f g (omega arith) (omega arith) (omega arith) node w);
+        block = λ i k. block_within_more f g (omega arith) (omega arith) (block_at f i) (c.within.block i k);
+        region = c.within.region;
+      };
+      root = let r = c.root in omega arith;
+    }
+
+pub closed_value : (f : Flat) (type : Handle) → IsClosed f → IsClosed (with_value f type)
+closed_value f type c = let g : Flat = with_value f type in
+    let e : length g.types ≡ length f.types + 1 = length_push f.types type in record {
+      within = record {
+        op = λ i k. within_more f g (omega arith) (omega arith) (omega arith) (op_at f i) (c.within.op i k);
+        block = λ i k. block_within_more f g (omega arith) (omega arith) (block_at f i) (c.within.block i k);
+        region = c.within.region;
+      };
+      root = c.root;
+    }
+
+pub closed_block : (f : Flat) → IsClosed f → IsClosed (with_block f)
+closed_block f c = let g : Flat = with_block f in
+    let e : length g.blocks ≡ length f.blocks + 1 = length_push f.blocks no_block in record {
+      within = record {
+        op = λ i k. within_more f g (omega arith) (omega arith) (omega arith) (op_at f i) (c.within.op i k);
+        block = at_push (IsBlockWithin g) f.blocks no_block no_block (λ i k. block_within_more f g (omega arith) (omega arith) (block_at f i) (c.within.block i k)) (record { args = below_nil (length f.types); ops = below_nil (length f.ops) });
+        region = λ r k. below_more (length f.blocks) (length g.blocks) (omega arith) (blocks_at f r) (c.within.region r k);
+      };
+      root = c.root;
     }

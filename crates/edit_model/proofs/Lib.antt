@@ -1,4 +1,1 @@
-pub mod JournalLaws
-pub mod StepLaws
 pub mod ClosedLaws
-pub mod EffectLaws

@@ -1,4 +1,2 @@
 pub mod Writes
-pub mod Journal
-pub mod HandleTree
-pub mod Effects
+pub mod Rooms

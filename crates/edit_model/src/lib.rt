@@ -1,8 +1,4 @@
-//! Edits of a function in nodes: the steps that they are made of, how each is taken back, and a journal of steps.
+//! Nodes of a function after one write, and that it stays closed.
 //!
 //! A crate of definitions with their laws.
 #![tactic(auto)]
-
-mod step;
-
-pub use step::Step;

@@ -5,3 +5,4 @@ pub mod FinishLaws
 pub mod ToTreeLaws
 pub mod ModuleLaws
 pub mod CellLaws
+pub mod ClosingLaws

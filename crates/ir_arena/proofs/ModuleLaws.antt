@@ -1,5 +1,5 @@
 -- Functions in order.
-use Rattle.std.proofs.Common.{◌≡◌, ℕ, ◌<◌, ◌+◌, List, [], ◌∷◌, ◌++◌, length, get_or, take, refl, sym, ap, subst, ◌∙◌, arith}
+use Rattle.std.proofs.Common.{◌≡◌, ℕ, ◌<◌, ◌+◌, List, [], ◌∷◌, ◌++◌, length, get_or, take, sym, subst}
 use Rattle.std.specs.List.{AllZip}
 use Rattle.key_model.specs.declared.handle.Handle.{Handle}
 use Rattle.key_model.specs.declared.key.Key.{Key}
@@ -7,7 +7,7 @@ use Rattle.tree_model.specs.declared.attr_tree.AttrTree.{AttrTree}
 use Rattle.tree_model.specs.declared.op_tree.FuncTree.{FuncTree}
 use Rattle.tree_model.specs.declared.op_tree.ModuleTree.{ModuleTree}
 use Rattle.flat_model.specs.Growth.{Kept}
-use Rattle.flat_model.specs.Shows.{Itself, FuncShows}
+use Rattle.flat_model.specs.Shows.{Itself}
 use Rattle.flat_model.proofs.GrowthLaws.{grown_refl, op_later, zip_map}
 use Rattle.ir_arena.specs.Arena.{Arena}
 use Rattle.ir_arena.specs.Modules.{ArenaShows, ArenaShowsSame}

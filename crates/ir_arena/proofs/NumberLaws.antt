@@ -1,7 +1,7 @@
 -- Places of numbers.
-use Rattle.std.proofs.Common.{◌≡◌, ℕ, zero, suc, ◌<◌, ◌≤◌, ◌+◌, List, [], ◌∷◌, ◌++◌, length, get_or, refl, sym, ap, subst, ◌∙◌, arith}
+use Rattle.std.proofs.Common.{ℕ, List, [], ◌∷◌, length, arith}
 use Rattle.std.proofs.lemmas.Grind.{common_steps}
-use Rattle.std.specs.List.{All, AllZip}
+use Rattle.std.specs.List.{AllZip}
 use Rattle.flat_model.specs.Flat.{AllBelow}
 use Rattle.flat_model.proofs.GrowthLaws.{zip_push, below_next}
 use Rattle.ir_arena.specs.declared.numbering.Numbering.{Numbering}

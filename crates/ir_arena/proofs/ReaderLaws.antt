@@ -1,7 +1,7 @@
 -- Nodes of a function that is closed.
-use Rattle.std.proofs.Common.{◌≡◌, ℕ, ◌<◌, List, length, get_or, map, refl, sym, ap, subst, ◌∙◌, arith}
+use Rattle.std.proofs.Common.{◌≡◌, ℕ, ◌<◌, List, length, get_or, sym, subst}
 use Rattle.std.proofs.lemmas.Grind.{common_steps}
-use Rattle.flat_model.specs.Flat.{Flat, AllBelow, IsClosed, op_at, block_at, blocks_at}
+use Rattle.flat_model.specs.Flat.{AllBelow, IsClosed, op_at, block_at, blocks_at}
 use Rattle.ir_arena.specs.Arena.{Arena}
 
 pub ruleset reader_laws = common_steps

@@ -1,5 +1,5 @@
 -- Trees that are read part by part.
-use Rattle.std.proofs.Common.{◌≡◌, ℕ, zero, suc, ◌<◌, ◌≤◌, ◌+◌, List, [], ◌∷◌, ◌++◌, length, get_or, take, refl, sym, ap, subst, ◌∙◌, arith}
+use Rattle.std.proofs.Common.{◌≡◌, ℕ, zero, suc, ◌<◌, ◌+◌, List, [], ◌∷◌, ◌++◌, length, get_or, take, refl, sym, ap, subst, ◌∙◌, arith}
 use Rattle.std.specs.List.{AllZip}
 use Rattle.std.proofs.lemmas.Grind.{common_steps}
 use Rattle.key_model.specs.declared.handle.Handle.{Handle}
@@ -11,8 +11,7 @@ use Rattle.tree_model.specs.declared.op_tree.OpTree.{OpTree, out-OpTree, roll-Op
 use Rattle.tree_model.specs.declared.op_tree.BlockTree.{BlockTree, out-BlockTree, roll-BlockTree, roll-out-BlockTree}
 use Rattle.tree_model.specs.declared.op_tree.RegionTree.{RegionTree, out-RegionTree, roll-RegionTree, roll-out-RegionTree}
 use Rattle.flat_model.specs.declared.nodes.NamedAttr.{NamedAttr}
-use Rattle.flat_model.specs.declared.nodes.OpNode.{OpNode}
-use Rattle.flat_model.specs.Flat.{Flat, op_at, block_at, blocks_at, type_at, no_type}
+use Rattle.flat_model.specs.Flat.{Flat, op_at, block_at, blocks_at, type_at}
 use Rattle.flat_model.specs.Growth.{Kept}
 use Rattle.flat_model.specs.Shows.{Itself, EntryShows, ValueShows, FrontShows, BlockFrontShows, OpShows, op_shown, OpsShow, ops_shown, next_op_shown, RegionsShow, regions_shown, next_region_shown, BlocksShow, blocks_shown, next_block_shown}
 use Rattle.flat_model.proofs.GrowthLaws.{kept_refl, kept_on, grown_refl, op_later, ops_later, blocks_later, block_front_later}

@@ -1,7 +1,7 @@
 -- What contracts say of an arena while it is built from a tree.
-use Rattle.std.specs.Prelude.{◌≡◌, ℕ, ◌<◌, [], Some, length, get_or, nat_eq}
+use Rattle.std.specs.Prelude.{◌≡◌, ℕ, ◌<◌, List, [], Some, length, get_or, nat_eq}
 use Rattle.std.specs.HashMap.{get}
-use Rattle.flat_model.specs.Flat.{Flat}
+use Rattle.flat_model.specs.Flat.{Flat, BlockNode}
 use Rattle.flat_model.specs.Growth.{Built}
 use Rattle.ir_arena.specs.Arena.{flat_of}
 use Rattle.ir_arena.specs.declared.numbering.Numbering.{Numbering}
@@ -25,3 +25,7 @@ BuiltBy n b c = Built (length n.values.numbers.items) (length n.labels.numbers.i
 -- no nodes
 abbrev pub blank_nodes : Flat
 blank_nodes = record { ops = []; blocks = []; regions = []; types = []; root = 0 }
+
+-- a block with these arguments and operations
+abbrev pub block_of : List ℕ → List ℕ → BlockNode
+block_of args ops = record { args = args; ops = ops }

@@ -2,3 +2,4 @@ pub mod Arena
 pub mod Building
 pub mod Handed
 pub mod Modules
+pub mod Closing

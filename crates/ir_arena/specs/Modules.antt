@@ -1,5 +1,4 @@
 -- Which tree a module shows.
-use Rattle.std.specs.Prelude.{◌≡◌}
 use Rattle.std.specs.List.{AllZip}
 use Rattle.key_model.specs.declared.handle.Handle.{Handle}
 use Rattle.key_model.specs.declared.key.Key.{Key}

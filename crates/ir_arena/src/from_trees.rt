@@ -18,7 +18,7 @@ use std::alloc::Global;
 use tree_model::FuncTree;
 
 /// No nodes yet.
-fn blank(alloc: Global) -> Build
+pub fn blank(alloc: Global) -> Build
     ensures { nodes_of result ≡ blank_nodes }
 {
     Build {

@@ -22,7 +22,7 @@ impl Model for Func {
 
     ghost Value = { Arena };
 
-    ghost view = { λ f. record { flat = flat_of f.ops.items f.blocks.items f.regions.items f.types.items f.root; rooms = rooms_of f.blocks.items f.regions.items } };
+    ghost view = { λ f. record { flat = flat_of f.ops.items f.blocks.items f.regions.items f.types.items f.root; rooms = rooms_of f.blocks.items } };
 
     ghost invariant = { λ f. IsClosed (flat_of f.ops.items f.blocks.items f.regions.items f.types.items f.root) };
 }

@@ -2,9 +2,12 @@
 #![tactic(auto)]
 
 mod build;
+mod builder;
 mod cells;
+mod closing;
 mod counting;
 mod dicts;
+mod exchanges;
 mod fresh;
 mod from_trees;
 mod fronts;
@@ -21,6 +24,7 @@ mod steps;
 mod to_trees;
 mod values;
 
+pub use builder::FuncBuilder;
 pub use func::Func;
 pub use module_cell::Module;
 pub use module_trees::through_arena;

@@ -138,6 +138,27 @@ impl Func {
         next(self.types.len())
     }
 
+    /// How many operations there are. Those that are in no block count too.
+    pub fn all_ops(&self) -> Result<u32, NoMemory>
+        ensures { IfOk result (λ count. count ≡ length self.now.flat.ops) }
+    {
+        next(self.ops.len())
+    }
+
+    /// How many blocks there are. Those that are in no region count too.
+    pub fn all_blocks(&self) -> Result<u32, NoMemory>
+        ensures { IfOk result (λ count. count ≡ length self.now.flat.blocks) }
+    {
+        next(self.blocks.len())
+    }
+
+    /// How many regions there are.
+    pub fn all_regions(&self) -> Result<u32, NoMemory>
+        ensures { IfOk result (λ count. count ≡ length self.now.flat.regions) }
+    {
+        next(self.regions.len())
+    }
+
     /// Nothing is done. Contracts learn that each number in the function names something in it.
     pub fn closed(&self)
         ensures { IsClosed self.now.flat }

@@ -3,7 +3,7 @@
 ghost use Rattle.std.specs.Prelude.{◌≡◌, ◌+◌, ◌-◌, ◌<◌, ◌≤◌, ◌++◌, length, get_or, slice_index, insert, remove, take, IfOk, OnOk, OnErr};
 ghost use Rattle.flat_model.specs.Flat.{IsClosed, IsOpWithin, op_at, block_at};
 ghost use Rattle.edit_model.specs.Writes.{with_op, with_operand, with_ops};
-ghost use Rattle.edit_model.specs.Journal.{IsRoomier};
+ghost use Rattle.edit_model.specs.Rooms.{IsRoomier};
 
 use crate::func::Func;
 use crate::pushing::next;
@@ -64,7 +64,7 @@ impl Func {
         requires at { at ≤ length (block_at self.old.flat block).ops }
         requires op { op < length self.old.flat.ops }
         ensures flat { OnOk result (self.new.flat ≡ with_ops self.old.flat block (insert (block_at self.old.flat block).ops at op)) }
-        ensures rooms { IsRoomier self.old.rooms.ops self.new.rooms.ops }
+        ensures rooms { IsRoomier self.old.rooms self.new.rooms }
         ensures err { OnErr result (self.new ≡ self.old) }
         ensures closed { IsClosed self.old.flat }
     {
@@ -77,9 +77,9 @@ impl Func {
         requires block { block < length self.old.flat.blocks }
         requires at { at ≤ length (block_at self.old.flat block).ops }
         requires op { op < length self.old.flat.ops }
-        requires room { length (block_at self.old.flat block).ops < get_or self.old.rooms.ops block 0 }
+        requires room { length (block_at self.old.flat block).ops < get_or self.old.rooms block 0 }
         ensures flat { self.new.flat ≡ with_ops self.old.flat block (insert (block_at self.old.flat block).ops at op) }
-        ensures rooms { IsRoomier self.old.rooms.ops self.new.rooms.ops }
+        ensures rooms { IsRoomier self.old.rooms self.new.rooms }
     {
         let cell = &mut self.blocks[block as usize];
         cell.ops.put_back(at, op);
@@ -91,8 +91,8 @@ impl Func {
         requires at { at < length (block_at self.old.flat block).ops }
         ensures op { result ≡ slice_index (block_at self.old.flat block).ops at }
         ensures flat { self.new.flat ≡ with_ops self.old.flat block (remove (block_at self.old.flat block).ops at) }
-        ensures rooms { IsRoomier self.old.rooms.ops self.new.rooms.ops }
-        ensures room { length (block_at self.old.flat block).ops ≤ get_or self.new.rooms.ops block 0 }
+        ensures rooms { IsRoomier self.old.rooms self.new.rooms }
+        ensures room { length (block_at self.old.flat block).ops ≤ get_or self.new.rooms block 0 }
         ensures closed { IsClosed self.old.flat }
     {
         let cell = &mut self.blocks[block as usize];

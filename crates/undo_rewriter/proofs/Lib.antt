@@ -1,1 +1,4 @@
+pub mod JournalLaws
+pub mod StepLaws
 pub mod WriterLaws
+pub mod LastLaws

@@ -1,17 +1,21 @@
 -- Steps that are kept in a journal.
-use Rattle.std.proofs.Common.{◌≡◌, ℕ, zero, suc, ◌<◌, ◌≤◌, ◌+◌, ◌-◌, List, [], ◌∷◌, ◌++◌, length, get_or, set, take, drop, refl, sym, ap, subst, ◌∙◌, arith}
+use Rattle.std.proofs.Common.{◌≡◌, ℕ, suc, ◌<◌, ◌≤◌, ◌+◌, ◌-◌, List, [], ◌∷◌, ◌++◌, length, get_or, set, take, drop, sym, ap, subst, ◌∙◌, arith}
 use Rattle.std.specs.Prelude.{insert, remove}
 use Rattle.std.proofs.lemmas.Grind.{common_steps}
-use Rattle.std.proofs.lemmas.List.{length_push, length-append, length-set, get_or-set_same, get_or_at, length-take-le, length-drop, length-take, take-take}
+use Rattle.std.proofs.lemmas.List.{length_push, length-append, length-set, get_or-set_same, get_or_at, length-take-le, length-drop, take-take}
 use Rattle.key_model.specs.declared.handle.Handle.{Handle}
 use Rattle.flat_model.specs.declared.nodes.OpNode.{OpNode}
-use Rattle.flat_model.specs.Flat.{BlockNode, Flat, no_op, no_block, op_at, block_at, AllBelow, IsClosed}
-use Rattle.edit_model.specs.declared.step.Step.{Step}
-use Rattle.edit_model.specs.declared.step.Step.TheVariants.{Begin, OpAdded, OpListed, OpUnlisted, OperandSet}
-use Rattle.edit_model.specs.Writes.{with_op, with_ops, with_operand}
-use Rattle.edit_model.specs.Journal.{undone, at_mark, edits, IsPossible, CanUndo, IsSound, IsRoomier, Edited, KeepsMarks, IsBack}
-use Rattle.edit_model.proofs.JournalLaws.{sound_after, kept_after, kept_refl, kept_on, kept_same, mark_now}
-use Rattle.edit_model.proofs.StepLaws.{listed_back, unlisted_back, operand_back, added_back}
+use Rattle.flat_model.specs.Flat.{BlockNode, Flat, no_op, no_block, op_at, block_at, blocks_at, AllBelow, IsClosed}
+use Rattle.undo_rewriter.specs.declared.step.Step.{Step}
+use Rattle.undo_rewriter.specs.declared.step.Step.TheVariants.{Begin, OpAdded, OpListed, OpUnlisted, OperandSet, ValueAdded, BlockAdded, ArgsSet, BlocksSet, Replaced}
+use Rattle.edit_model.specs.Writes.{with_op, with_ops, with_operand, with_args, with_block, with_blocks, with_value}
+use Rattle.std.specs.Prelude.{Vec}
+use Rattle.std.specs.declared.alloc.Global.{Global}
+use Rattle.undo_rewriter.specs.Journal.{undone, at_mark, edits, IsPossible, IsSound, rooms_before, Edited, KeepsMarks, IsBack}
+use Rattle.edit_model.specs.Rooms.{IsRoomier}
+use Rattle.ir_arena.specs.Arena.{Arena}
+use Rattle.undo_rewriter.proofs.JournalLaws.{sound_after, kept_after, kept_refl, kept_on, kept_same, mark_now}
+use Rattle.undo_rewriter.proofs.StepLaws.{listed_back, unlisted_back, operand_back, added_back, value_back, block_back, args_back, blocks_back}
 
 pub roomier_same : (a b : List ℕ) → b ≡ a → IsRoomier a b
 roomier_same a b e = record { room = λ k. let d : get_or b k 0 ≡ get_or a k 0 = ap (λ xs. get_or xs k 0) e in omega arith }
@@ -68,8 +72,34 @@ unlisted_done rooms f g block at op e d h k r = let xs = (block_at f block).ops 
       ),
     ))
 
+pub value_done : (rooms : List ℕ) (f g : Flat) (type : Handle) (values : ℕ) → g ≡ with_value f type → values ≡ length f.types → Done rooms (ValueAdded values) f g
+value_done rooms f g type values e d = (ap (undone (ValueAdded values)) e ∙ ap (λ n. undone (ValueAdded n) (with_value f type)) d ∙ value_back f type, tt)
+
+pub block_done : (rooms : List ℕ) (f g : Flat) (blocks : ℕ) → g ≡ with_block f → blocks ≡ length f.blocks → Done rooms (BlockAdded blocks) f g
+block_done rooms f g blocks e d = (ap (undone (BlockAdded blocks)) e ∙ ap (λ n. undone (BlockAdded n) (with_block f)) d ∙ block_back f, tt)
+
+pub args_done : (rooms : List ℕ) (f g : Flat) (block : ℕ) (args : List ℕ) (was : Vec ℕ Global) → g ≡ with_args f block args → was.items ≡ (block_at f block).args → block < length f.blocks → Done rooms (ArgsSet block was) f g
+args_done rooms f g block args was e w h = let n : BlockNode = record (block_at f block) { args = args } in
+    subst (λ x. Done rooms (ArgsSet block was) f x) (sym e) (args_back f block args was w h, omega (arith, length-set f.blocks block n))
+
+pub blocks_done : (rooms : List ℕ) (f g : Flat) (region : ℕ) (blocks : List ℕ) (was : Vec ℕ Global) → g ≡ with_blocks f region blocks → was.items ≡ blocks_at f region → region < length f.regions → Done rooms (BlocksSet region was) f g
+blocks_done rooms f g region blocks was e w h =
+    subst (λ x. Done rooms (BlocksSet region was) f x) (sym e) (blocks_back f region blocks was w, omega (arith, length-set f.regions region blocks))
+
+pub args_known : (f : Flat) (block : ℕ) (args : List ℕ) → IsClosed (with_args f block args) → block < length f.blocks → AllBelow (length f.types) args
+args_known f block args c h = let n : BlockNode = record (block_at f block) { args = args } in
+    let b : block < length (set f.blocks block n) = omega (arith, length-set f.blocks block n) in
+    subst (λ (m : BlockNode). AllBelow (length f.types) m.args) (get_or-set_same f.blocks block n no_block h) (c.within.block block b).args
+
+pub blocks_known : (f : Flat) (region : ℕ) (blocks : List ℕ) → IsClosed (with_blocks f region blocks) → region < length f.regions → AllBelow (length f.blocks) blocks
+blocks_known f region blocks c h = let b : region < length (set f.regions region blocks) = omega (arith, length-set f.regions region blocks) in
+    subst (AllBelow (length f.blocks)) (get_or-set_same f.regions region blocks [] h) (c.within.region region b)
+
+pub replaced_done : (rooms : List ℕ) (a : Arena) (f g : Flat) → a.flat ≡ f → Done rooms (Replaced a) f g
+replaced_done rooms a f g e = (e, tt)
+
 -- a step that was done leaves a sound journal, and keeps the marks
-pub done_sound : (a b : List ℕ) (us ws : List Step) (u : Step) (f g : Flat) → Done b u f g → ws ≡ us ++ u ∷ [] → IsSound a us f → IsRoomier a b → IsClosed f → IsSound b ws g
+pub done_sound : (a b : List ℕ) (us ws : List Step) (u : Step) (f g : Flat) → Done b u f g → ws ≡ us ++ u ∷ [] → IsSound a us f → IsRoomier a (rooms_before u b) → IsClosed f → IsSound b ws g
 done_sound a b us ws u f g d e s r c = sound_after a b us ws u f g e s r d.0 d.1 c
 
 pub done_kept : (a b : Edited) (rooms : List ℕ) (u : Step) → Done rooms u a.now b.now → b.journal ≡ a.journal ++ u ∷ [] → KeepsMarks a b
@@ -95,6 +125,11 @@ edits_few (OpAdded a ∷ us) = let e = edits_few us in omega arith
 edits_few (OpListed a b ∷ us) = let e = edits_few us in omega arith
 edits_few (OpUnlisted a b c ∷ us) = let e = edits_few us in omega arith
 edits_few (OperandSet a b c ∷ us) = let e = edits_few us in omega arith
+edits_few (ValueAdded a ∷ us) = let e = edits_few us in omega arith
+edits_few (BlockAdded a ∷ us) = let e = edits_few us in omega arith
+edits_few (ArgsSet a b ∷ us) = let e = edits_few us in omega arith
+edits_few (BlocksSet a b ∷ us) = let e = edits_few us in omega arith
+edits_few (Replaced a ∷ us) = let e = edits_few us in omega arith
 
 pub ruleset writer_laws = (common_steps, kept_refl, kept_on, kept_same)
 

@@ -2,10 +2,10 @@
 
 ghost use Rattle.std.specs.Prelude.{◌≡◌, ℕ, ◌+◌, ◌<◌, ◌≤◌, [], ◌++◌, length, insert, remove, IfOk, OnOk, OnErr};
 ghost use Rattle.flat_model.specs.Flat.{IsOpWithin, op_at, block_at};
-ghost use Rattle.edit_model.specs.HandleTree.{front_of, op_of, regions_end, tree};
-ghost use Rattle.edit_model.specs.Effects.{op_edited, operand_set, op_inserted, op_erased};
+ghost use Rattle.edit_effects.specs.HandleTree.{front_of, op_of, regions_end, tree};
+ghost use Rattle.edit_effects.specs.Effects.{op_edited, operand_set, op_inserted, op_erased};
 ghost use Rattle.edit_model.specs.Writes.{with_op, with_operand, with_ops};
-ghost use Rattle.edit_model.specs.Journal.{IsBack, KeepsMarks};
+ghost use Rattle.undo_rewriter.specs.Journal.{IsBack, KeepsMarks};
 
 use crate::rewriter::Rewriter;
 use flat_model::{BlockId, OpId, OpNode, ValueId};

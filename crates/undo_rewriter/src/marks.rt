@@ -2,7 +2,7 @@
 
 ghost use Rattle.std.specs.Prelude.{◌≡◌, ℕ, ◌<◌, ◌≤◌, [], length, take, drop};
 ghost use Rattle.flat_model.specs.Flat.{IsClosed};
-ghost use Rattle.edit_model.specs.Journal.{at_mark, edits};
+ghost use Rattle.undo_rewriter.specs.Journal.{at_mark, edits};
 
 use crate::rewriter::{Mark, Rewriter};
 use ir_arena::Func;
@@ -15,6 +15,7 @@ impl Rewriter {
         ensures journal { result.journal ≡ [] }
     {
         Rewriter {
+            alloc,
             func,
             journal: Vec::new(alloc),
         }
@@ -31,7 +32,11 @@ impl Rewriter {
     pub fn commit(self) -> Func
         ensures { result.flat ≡ self.now }
     {
-        let Rewriter { func, journal: _ } = self;
+        let Rewriter {
+            alloc: _,
+            func,
+            journal: _,
+        } = self;
         func
     }
 

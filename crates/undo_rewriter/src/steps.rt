@@ -3,10 +3,10 @@
 ghost use Rattle.std.specs.Prelude.{◌≡◌, ◌+◌, ◌<◌, ◌≤◌, ◌++◌, length, insert, remove, slice_index, IfOk, OnOk, OnErr};
 ghost use Rattle.flat_model.specs.Flat.{IsOpWithin, op_at, block_at};
 ghost use Rattle.edit_model.specs.Writes.{with_op, with_operand, with_ops};
-ghost use Rattle.edit_model.specs.Journal.{KeepsMarks};
+ghost use Rattle.undo_rewriter.specs.Journal.{KeepsMarks};
 
 use crate::rewriter::Rewriter;
-use edit_model::Step;
+use crate::step::Step;
 use flat_model::{BlockId, OpId, OpNode, ValueId};
 use key_model::Handle;
 use tree_model::NoMemory;

@@ -1,10 +1,10 @@
 //! The last step taken back.
 
 ghost use Rattle.std.specs.Prelude.{◌≡◌, ℕ, ◌+◌, ◌-◌, ◌<◌, length, take, drop, if◌then◌else◌};
-ghost use Rattle.edit_model.specs.Journal.{at_mark, edits};
+ghost use Rattle.undo_rewriter.specs.Journal.{at_mark, edits};
 
 use crate::rewriter::Rewriter;
-use edit_model::Step;
+use crate::step::Step;
 
 impl Rewriter {
     /// Takes the last step back, and says whether an edit began with it.
@@ -32,6 +32,26 @@ impl Rewriter {
             Some(Step::OperandSet(op, at, value)) => {
                 self.func.set_operand(op, at as usize, value);
                 false
+            }
+            Some(Step::ValueAdded(values)) => {
+                self.func.drop_values(values as usize);
+                false
+            }
+            Some(Step::BlockAdded(count)) => {
+                self.func.drop_blocks(count as usize);
+                false
+            }
+            Some(Step::ArgsSet(block, args)) => {
+                self.func.exchange_args(block, args.into_inner());
+                false
+            }
+            Some(Step::BlocksSet(region, held)) => {
+                self.func.exchange_blocks(region, held.into_inner());
+                false
+            }
+            Some(Step::Replaced(held)) => {
+                self.func = held.into_inner();
+                true
             }
         }
     }

@@ -1,13 +1,10 @@
-use Rattle.std.proofs.Common.{◌≡◌, arith, sym, subst, List, ℕ, refl}
+use Rattle.std.proofs.Common.{arith, sym, subst, List, ℕ}
 use Rattle.std.specs.List.{AllZip}
 use Rattle.std.proofs.lemmas.Grind.{common_steps}
-use Rattle.key_model.specs.declared.handle.Handle.{Handle}
-use Rattle.key_model.specs.declared.key.Key.{Key}
 use Rattle.tree_model.specs.declared.type_tree.TypeTree.{TypeTree}
 use Rattle.tree_model.specs.declared.op_tree.OpTree.{OpTree}
 use Rattle.tree_model.specs.declared.op_tree.BlockTree.{BlockTree}
 use Rattle.tree_model.specs.declared.op_tree.RegionTree.{RegionTree}
-use Rattle.flat_model.specs.Flat.{Flat, BlockNode}
 use Rattle.flat_model.specs.Shows.{ValueShows, OpsShow, RegionsShow, BlocksShow}
 use Rattle.flat_model.proofs.GrowthLaws.{built_on, kept_on}
 use Rattle.ir_arena.specs.Building.{nodes_of, Names}

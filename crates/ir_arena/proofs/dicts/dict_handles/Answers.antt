@@ -1,9 +1,7 @@
-use Rattle.std.proofs.Common.{arith, take}
+use Rattle.std.proofs.Common.{arith}
 use Rattle.std.proofs.lemmas.Grind.{common_steps}
-use Rattle.std.proofs.Math.Seq.{take-suc}
-use Rattle.flat_model.specs.Shows.{EntryShows}
 use Rattle.flat_model.proofs.GrowthLaws.{kept_on}
-use Rattle.ir_arena.proofs.BuildLaws.{build_laws, next_entry}
+use Rattle.ir_arena.proofs.BuildLaws.{next_entry}
 use Rattle.ir_arena.proofs.dicts.dict_handles.Goals as goal
 
 pub loop-entry-preserved : goal.loop-entry-preserved

@@ -1,13 +1,8 @@
-use Rattle.std.proofs.Common.{◌≡◌, ◌*◌, ◌+◌, ℕ, List, take}
+use Rattle.std.proofs.Common.{◌≡◌, ℕ, List, take}
 use Rattle.std.specs.List.{AllZip}
 use Rattle.tree_model.specs.declared.type_tree.TypeTree.{TypeTree}
-use Rattle.tree_model.specs.declared.attr_tree.AttrTree.{AttrTree}
-use Rattle.tree_model.specs.declared.op_tree.OpTree.{OpTree}
-use Rattle.tree_model.specs.declared.op_tree.BlockTree.{BlockTree}
-use Rattle.tree_model.specs.declared.op_tree.RegionTree.{RegionTree}
-use Rattle.flat_model.specs.Flat.{block_at}
 use Rattle.flat_model.specs.Growth.{Kept}
-use Rattle.flat_model.specs.Shows.{Itself, EntryShows, ValueShows, OpsShow, RegionsShow, BlocksShow}
+use Rattle.flat_model.specs.Shows.{Itself, ValueShows}
 use Rattle.ir_arena.proofs.fronts.value_trees.Given as goal
 
 abbrev pub invariant-loop-value : goal.invariant-loop-value

@@ -1,4 +1,4 @@
-use Rattle.std.proofs.Common.{◌≡◌, arith, List, ℕ, subst}
+use Rattle.std.proofs.Common.{arith, List, ℕ, subst}
 use Rattle.std.specs.List.{AllZip}
 use Rattle.std.proofs.lemmas.Grind.{common_steps}
 use Rattle.tree_model.specs.declared.attr_tree.AttrTree.{AttrTree}

@@ -1,13 +1,10 @@
-use Rattle.std.proofs.Common.{◌≡◌, ◌*◌, ◌+◌, ℕ, List, take}
-use Rattle.std.specs.List.{AllZip}
-use Rattle.tree_model.specs.declared.type_tree.TypeTree.{TypeTree}
-use Rattle.tree_model.specs.declared.attr_tree.AttrTree.{AttrTree}
+use Rattle.std.proofs.Common.{◌≡◌, ◌*◌, ◌+◌, List, take}
 use Rattle.tree_model.specs.declared.op_tree.OpTree.{OpTree}
 use Rattle.tree_model.specs.declared.op_tree.BlockTree.{BlockTree}
 use Rattle.tree_model.specs.declared.op_tree.RegionTree.{RegionTree}
 use Rattle.flat_model.specs.Flat.{block_at}
 use Rattle.flat_model.specs.Growth.{Kept}
-use Rattle.flat_model.specs.Shows.{Itself, EntryShows, ValueShows, OpsShow, RegionsShow, BlocksShow}
+use Rattle.flat_model.specs.Shows.{Itself, OpsShow, RegionsShow, BlocksShow}
 use Rattle.ir_arena.proofs.to_trees.+to_tree.Given as goal
 
 abbrev pub invariant-region_trees-loop-region : goal.invariant-region_trees-loop-region

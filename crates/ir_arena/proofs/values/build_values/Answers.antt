@@ -1,4 +1,4 @@
-use Rattle.std.proofs.Common.{arith, take}
+use Rattle.std.proofs.Common.{arith}
 use Rattle.std.proofs.lemmas.Grind.{common_steps}
 use Rattle.flat_model.proofs.GrowthLaws.{kept_on, built_on}
 use Rattle.ir_arena.specs.Building.{nodes_of, Names}

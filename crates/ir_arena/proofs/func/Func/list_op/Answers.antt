@@ -1,10 +1,6 @@
-use Rattle.std.proofs.Common.{◌≡◌, arith, sym, ap, subst, ◌∙◌, ◌++◌, ◌∷◌, [], refl, ◌<◌, length}
+use Rattle.std.proofs.Common.{arith, ◌<◌, length}
 use Rattle.std.proofs.lemmas.Grind.{common_steps}
-use Rattle.flat_model.specs.Flat.{IsClosed, AllBelow}
-use Rattle.edit_model.specs.Writes.{with_op}
-use Rattle.edit_model.proofs.ClosedLaws.{below_insert, below_remove, closed_operand, closed_op}
-use Rattle.ir_arena.specs.Arena.{Arena, flat_of}
-use Rattle.ir_arena.proofs.CellLaws.{closed_written, listed_below, operand_written}
+use Rattle.ir_arena.proofs.CellLaws.{closed_written, listed_below}
 use Rattle.ir_arena.proofs.func.Func.list_op.Goals as goal
 
 pub invariant_of-self : goal.invariant_of-self

@@ -1,6 +1,6 @@
 use Rattle.std.proofs.Common.{arith}
 use Rattle.std.proofs.lemmas.Grind.{common_steps}
-use Rattle.edit_model.proofs.EffectLaws.{operand_effect, inserted_effect, erased_effect}
+use Rattle.edit_effects.proofs.EffectLaws.{inserted_effect}
 use Rattle.undo_rewriter.proofs.rewriter.Rewriter.insert_op.Goals as goal
 
 pub returns-in-Ok-clause-tree : goal.returns-in-Ok-clause-tree

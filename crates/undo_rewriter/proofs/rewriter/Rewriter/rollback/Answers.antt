@@ -1,7 +1,7 @@
-use Rattle.std.proofs.Common.{◌≡◌, ◌<◌, ◌≤◌, ◌+◌, arith, ◌∙◌, length, drop, take}
+use Rattle.std.proofs.Common.{◌≡◌, ◌<◌, ◌≤◌, ◌+◌, arith, ◌∙◌, length, drop}
 use Rattle.std.proofs.lemmas.Grind.{common_steps}
 use Rattle.std.proofs.lemmas.List.{length-drop}
-use Rattle.edit_model.specs.Journal.{edits}
+use Rattle.undo_rewriter.specs.Journal.{edits}
 use Rattle.undo_rewriter.proofs.WriterLaws.{shorter_journal, edits_few}
 use Rattle.undo_rewriter.proofs.rewriter.Rewriter.rollback.Goals as goal
 

@@ -1,5 +1,5 @@
-use Rattle.std.proofs.Common.{◌≡◌, ℕ, ◌+◌, ◌-◌, ◌≤◌, length, take, drop}
-use Rattle.edit_model.specs.Journal.{at_mark, edits}
+use Rattle.std.proofs.Common.{◌≡◌, ℕ, ◌+◌, ◌≤◌, length, take, drop}
+use Rattle.undo_rewriter.specs.Journal.{at_mark, edits}
 use Rattle.undo_rewriter.proofs.rewriter.Rewriter.rollback.Given as goal
 
 abbrev pub invariant-loop-self : goal.invariant-loop-self

@@ -1,5 +1,5 @@
 -- The tree of a function in nodes, with handles in place of types and attributes.
-use Rattle.std.specs.Prelude.{◌≡◌, ℕ, zero, suc, List, [], ◌∷◌, map}
+use Rattle.std.specs.Prelude.{ℕ, zero, suc, List, [], ◌∷◌, map}
 use Rattle.key_model.specs.declared.handle.Handle.{Handle}
 use Rattle.flat_model.specs.declared.nodes.NamedAttr.{NamedAttr}
 use Rattle.flat_model.specs.declared.nodes.OpNode.{OpNode}

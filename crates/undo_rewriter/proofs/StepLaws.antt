@@ -1,14 +1,15 @@
 -- What each step's undoing gives.
-use Rattle.std.proofs.Common.{◌≡◌, ℕ, zero, suc, ◌<◌, ◌≤◌, ◌+◌, ◌-◌, List, [], ◌∷◌, ◌++◌, length, get_or, set, take, drop, refl, sym, ap, subst, ◌∙◌, arith}
+use Rattle.std.proofs.Common.{◌≡◌, ℕ, suc, ◌<◌, ◌≤◌, ◌+◌, ◌-◌, List, [], ◌∷◌, ◌++◌, length, get_or, set, take, drop, refl, sym, ap, ◌∙◌, arith}
 use Rattle.std.specs.Prelude.{insert, remove}
-use Rattle.std.proofs.lemmas.List.{length_push, take_at, drop_at, length-take-le, set-set, set-get_or, get_or-set_same, get_or_default, length-set, drop_more, take-append-drop, drop-drop, length-append, length-drop, length-take}
+use Rattle.std.proofs.lemmas.List.{length_push, take_at, drop_at, length-take-le, set-set, set-get_or, get_or-set_same, drop_more, take-append-drop, drop-drop}
 use Rattle.key_model.specs.declared.handle.Handle.{Handle}
 use Rattle.flat_model.specs.declared.nodes.OpNode.{OpNode}
-use Rattle.flat_model.specs.Flat.{BlockNode, Flat, no_op, no_block, op_at, block_at}
-use Rattle.edit_model.specs.declared.step.Step.{Step}
-use Rattle.edit_model.specs.declared.step.Step.TheVariants.{Begin, OpAdded, OpListed, OpUnlisted, OperandSet}
-use Rattle.edit_model.specs.Writes.{with_ops, with_operand, with_op}
-use Rattle.edit_model.specs.Journal.{undone}
+use Rattle.flat_model.specs.Flat.{BlockNode, Flat, no_op, no_block, op_at, block_at, blocks_at}
+use Rattle.undo_rewriter.specs.declared.step.Step.TheVariants.{OpAdded, OpListed, OpUnlisted, OperandSet, ValueAdded, BlockAdded, ArgsSet, BlocksSet}
+use Rattle.std.specs.Prelude.{Vec}
+use Rattle.std.specs.declared.alloc.Global.{Global}
+use Rattle.edit_model.specs.Writes.{with_ops, with_operand, with_op, with_args, with_block, with_blocks, with_value}
+use Rattle.undo_rewriter.specs.Journal.{undone}
 
 drop-one : (k : ℕ) (xs : List ℕ) → drop 1 (drop k xs) ≡ drop (suc k) xs
 drop-one k xs = let e : k + 1 ≡ suc k = omega arith in drop-drop 1 k xs ∙ ap (λ n. drop n xs) e
@@ -75,3 +76,22 @@ pub added_back : (f : Flat) (node : OpNode) (types : List Handle) → undone (Op
 added_back f node types =
     ap (λ os. record f { ops = os; types = take (length f.types) (f.types ++ types) }) (take_at f.ops (node ∷ []) (length (f.ops ++ node ∷ []) - 1) (omega (arith, length_push f.ops node)))
     ∙ ap (λ ts. record f { types = ts }) (take_at f.types types (length f.types) refl)
+
+pub value_back : (f : Flat) (type : Handle) → undone (ValueAdded (length f.types)) (with_value f type) ≡ f
+value_back f type = ap (λ ts. record f { types = ts }) (take_at f.types (type ∷ []) (length f.types) refl)
+
+pub block_back : (f : Flat) → undone (BlockAdded (length f.blocks)) (with_block f) ≡ f
+block_back f = ap (λ bs. record f { blocks = bs }) (take_at f.blocks (no_block ∷ []) (length f.blocks) refl)
+
+pub args_back : (f : Flat) (block : ℕ) (args : List ℕ) (was : Vec ℕ Global) → was.items ≡ (block_at f block).args → block < length f.blocks → undone (ArgsSet block was) (with_args f block args) ≡ f
+args_back f block args was e h = let n : BlockNode = record (block_at f block) { args = args } in
+    ap (λ (m : BlockNode). record f { blocks = set (set f.blocks block n) block (record m { args = was.items }) }) (get_or-set_same f.blocks block n no_block h)
+    ∙ ap (λ bs. record f { blocks = bs }) (set-set f.blocks block n (record n { args = was.items }))
+    ∙ ap (λ xs. record f { blocks = set f.blocks block (record (block_at f block) { args = xs }) }) e
+    ∙ ap (λ bs. record f { blocks = bs }) (set-get_or f.blocks block no_block)
+
+pub blocks_back : (f : Flat) (region : ℕ) (blocks : List ℕ) (was : Vec ℕ Global) → was.items ≡ blocks_at f region → undone (BlocksSet region was) (with_blocks f region blocks) ≡ f
+blocks_back f region blocks was e =
+    ap (λ rs. record f { regions = rs }) (set-set f.regions region blocks was.items)
+    ∙ ap (λ xs. record f { regions = set f.regions region xs }) e
+    ∙ ap (λ rs. record f { regions = rs }) (set-get_or f.regions region [])

@@ -1,7 +1,10 @@
 //! Steps, of which edits are made.
 
+use crate::held::Held;
+use ir_arena::Func;
+
 /// What a step did, as far as it is needed to take it back.
-#[derive(Clone, Copy, PartialEq, Eq, Debug)]
+#[derive(Drop)]
 pub enum Step {
     /// An edit began.
     Begin,
@@ -13,4 +16,14 @@ pub enum Step {
     OpUnlisted(u32, u32, u32),
     /// An operand was changed: the operation, the place, and the value that stood there.
     OperandSet(u32, u32, u32),
+    /// A value was added. There were so many before it.
+    ValueAdded(u32),
+    /// A block was added. There were so many before it.
+    BlockAdded(u32),
+    /// A block got other arguments: the block, and the arguments that it had.
+    ArgsSet(u32, Held<Vec<u32>>),
+    /// A region got other blocks: the region, and the blocks that it had.
+    BlocksSet(u32, Held<Vec<u32>>),
+    /// Another function took the place of this one. This is an edit by itself.
+    Replaced(Held<Func>),
 }

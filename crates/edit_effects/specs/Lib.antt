@@ -1,0 +1,3 @@
+pub mod HandleTree
+pub mod Effects
+pub mod Uses
