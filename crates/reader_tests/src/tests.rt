@@ -137,3 +137,38 @@ fn a_cut_string_is_refused(rt: HostRuntime) -> Result<(), Fail> {
     assert!(rt; refuses(rt.alloc(), b"\"builtin.modul", true, 0, "OpenString"));
     Ok(())
 }
+
+/// A string before a number or a type that it spells is read as a string, and the number and the type are read by themselves.
+#[test]
+fn strings_before_numbers_and_types(rt: HostRuntime) -> Result<(), Fail> {
+    assert!(rt;
+        shows(
+            rt.alloc(),
+            b"\"builtin.module\"() ({\n  \"func.func\"() <{function_type = () -> (), sym_name = \"f\"}> ({\n    \"t.x\"() {a = \"7\", b = 7 : i32, c = \"i8\", d = [7 : i8, memref<7xi8>]} : () -> ()\n  }) : () -> ()\n}) : () -> ()\n",
+            b"\"builtin.module\"() ({\n  \"func.func\"() <{function_type = () -> (), sym_name = \"f\"}> ({\n    \"t.x\"() {a = \"7\", b = 7 : i32, c = \"i8\", d = [7 : i8, memref<7xi8>]} : () -> ()\n  }) : () -> ()\n}) : () -> ()\n"
+        )
+    );
+    Ok(())
+}
+
+/// So are the number and the index of results, behind a symbol and a string.
+#[test]
+fn symbols_before_results(rt: HostRuntime) -> Result<(), Fail> {
+    assert!(rt;
+        shows(
+            rt.alloc(),
+            b"\"builtin.module\"() ({\n  \"func.func\"() <{function_type = () -> (), sym_name = \"f\"}> ({\n    %0:3 = \"t.x\"() {a = @\"3\", b = \"#2\"} : () -> (i1, i8, i64)\n    \"t.y\"(%0#2) {c = \"3\"} : (i64) -> ()\n  }) : () -> ()\n}) : () -> ()\n",
+            b"\"builtin.module\"() ({\n  \"func.func\"() <{function_type = () -> (), sym_name = \"f\"}> ({\n    %0:3 = \"t.x\"() {a = @\"3\", b = \"#2\"} : () -> (i1, i8, i64)\n    \"t.y\"(%0#2) {c = \"3\"} : (i64) -> ()\n  }) : () -> ()\n}) : () -> ()\n"
+        )
+    );
+    Ok(())
+}
+
+/// An entry that is named as an operation doesn't make the operation unknown.
+#[test]
+fn an_entry_before_its_operation(rt: HostRuntime) -> Result<(), Fail> {
+    let text = b"#a = {func.return} \"func.func\"() ({ \"func.return\"() : () -> ()}) : () -> ()";
+    assert!(&rt; text.len() <= 16777216);
+    assert!(&rt; read_tree(rt.alloc(), text, false).is_ok());
+    Ok(())
+}

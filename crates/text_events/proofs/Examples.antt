@@ -1,5 +1,5 @@
 -- Worked examples.
-use Rattle.std.proofs.Common.{◌≡◌, ℕ, true, false, [], ◌∷◌, None, Some, refl}
+use Rattle.std.proofs.Common.{◌≡◌, ℕ, true, false, List, [], ◌∷◌, map, None, Some, refl}
 use Rattle.std.specs.Prelude.{codes}
 use Rattle.mlir_lex.specs.Bytes.{is_short_escape}
 use Rattle.text_grammar.specs.declared.kinds.Kind.{Kind}
@@ -12,7 +12,7 @@ use Rattle.text_events.specs.Spelling.{unescaped, core, spelled}
 use Rattle.text_events.specs.Names.{names_of}
 use Rattle.text_events.specs.Aliases.{Aliases, no_aliases, aliases_behind, alias_fault}
 use Rattle.text_events.specs.Language.{Named, ends_at, nothing_before}
-use Rattle.text_events.specs.Source.{number_in}
+use Rattle.text_events.specs.Source.{events_of, number_in, number_of, width_of}
 
 -- `a\n\41\\b` stands for `a`, a line feed, `A\b`
 escapes : unescaped (97 ∷ 92 ∷ 110 ∷ 92 ∷ 52 ∷ 49 ∷ 92 ∷ 92 ∷ 98 ∷ []) ≡ 97 ∷ 10 ∷ 65 ∷ 92 ∷ 98 ∷ []
@@ -34,12 +34,36 @@ one_name : names_of (codes "\"f\" @f @\"f\" %f (")
 unfolding word spelled core
 one_name = refl
 
+like_strings : List Word
+like_strings = word kinds.Text 0 5 ∷ word kinds.Text 6 9 ∷ word kinds.Number 10 11 ∷ word kinds.Text 12 17 ∷ word kinds.WordWidth 18 21 ∷ []
+
 -- `0x1F` is 31, `017` is 17
 hexadecimal : number_in (codes "0x1F") ≡ 31
 hexadecimal = refl
 
 leading_zero : number_in (codes "017") ≡ 17
 leading_zero = refl
+
+-- in `"t.x" "7" 7 "i32" i32` the strings are read as strings and spell what the number and the type do, but these are read by themselves
+strings_first : names_of (codes "\"t.x\" \"7\" 7 \"i32\" i32") like_strings ≡ 0 ∷ 1 ∷ 1 ∷ 3 ∷ 3 ∷ []
+unfolding word spelled core like_strings
+strings_first = refl
+
+read_by_themselves : map (λ e. e.name) (events_of (places.OpName ∷ places.TextAttr ∷ places.IntegerNumber ∷ places.TextAttr ∷ places.IntegerWord ∷ []) (0 ∷ 1 ∷ 1 ∷ 3 ∷ 3 ∷ []))
+    ≡ 0 ∷ 1 ∷ 2 ∷ 3 ∷ 4 ∷ []
+read_by_themselves = refl
+
+seven : number_of (codes "\"t.x\" \"7\" 7 \"i32\" i32") like_strings 2 ≡ 7
+unfolding word like_strings number_of
+seven = refl
+
+width_32 : width_of (codes "\"t.x\" \"7\" 7 \"i32\" i32") like_strings 4 ≡ Some 32
+unfolding word like_strings width_of
+width_32 = refl
+
+-- the name of an operation is its own too, where an entry before it spells the same
+own_operation : map (λ e. e.name) (events_of (places.EntryName ∷ places.OpName ∷ places.EntryName ∷ []) (0 ∷ 0 ∷ 0 ∷ [])) ≡ 0 ∷ 1 ∷ 0 ∷ []
+own_operation = refl
 
 -- behind `!a = i32`, where the next definition begins, `!a` serves as an integer's type
 behind_one : Aliases

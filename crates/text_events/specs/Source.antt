@@ -1,10 +1,11 @@
 -- What names spell, by their numbers, and the events of a text.
-use Rattle.std.specs.Prelude.{ℕ, ◌-◌, ◌^◌, ◌%◌, ◌==◌, ◌&&◌, ◌||◌, Bool, false, List, [], ◌∷◌, drop, slice_get, codes, nat_le, Option, Some, None, if◌then◌else◌}
+use Rattle.std.specs.Prelude.{ℕ, ◌+◌, ◌-◌, ◌^◌, ◌%◌, ◌==◌, ◌&&◌, ◌||◌, Bool, true, false, List, [], ◌∷◌, drop, slice_get, codes, nat_le, Option, Some, None, if◌then◌else◌}
 use Rattle.std.specs.Str.{bytes_eq}
 use Rattle.text_grammar.specs.declared.words.Word.{Word}
 use Rattle.text_grammar.specs.TokenKinds.{value_from}
 use Rattle.text_events.specs.declared.event.Event.{Event}
 use Rattle.text_grammar.specs.declared.places.Place.{Place}
+use Rattle.text_grammar.specs.declared.places.Place.TheVariants as places
 use Rattle.text_events.specs.Spelling.{piece, spelled}
 
 -- the word that has this number as its name
@@ -63,8 +64,33 @@ spelled_of text words name = spelled_or text (word_of words name)
 
 -- Events
 
--- each place with its name
+-- Whether the word at the place is read by itself: the name of an operation, a number, and a type that is one word.
+-- A string or a symbol before it may spell the same, but is no such word: `"42"` is no number.
+abbrev pub is_own : Place → Bool
+is_own places.OpName = true
+is_own places.ResultNumber = true
+is_own places.UseNumber = true
+is_own places.IntegerWord = true
+is_own places.ElementWord = true
+is_own places.NumbersWidth = true
+is_own places.LlvmPlain = true
+is_own places.InnerPlain = true
+is_own places.ArrayNumber = true
+is_own places.DimensionSize = true
+is_own places.IntegerNumber = true
+is_own places.ListedNumber = true
+is_own _ = false
+
+-- the event of a word: its name is the word's own number where it is read by itself, and else that of the first word that spells the same
+abbrev pub event_at : Place → ℕ → ℕ → Event
+event_at place own name = record { place = place; name = if is_own place then own else name }
+
+-- each place, from that of a word on, with its name
+abbrev pub events_from : ℕ → List Place → List ℕ → List Event
+events_from own [] names = []
+events_from own (p ∷ ps) [] = []
+events_from own (p ∷ ps) (n ∷ names) = event_at p own n ∷ events_from (own + 1) ps names
+
+-- the events of a text, by the places of its words and the numbers of what they spell
 abbrev pub events_of : List Place → List ℕ → List Event
-events_of [] names = []
-events_of (p ∷ ps) [] = []
-events_of (p ∷ ps) (n ∷ names) = record { place = p; name = n } ∷ events_of ps names
+events_of places names = events_from 0 places names

@@ -24,6 +24,7 @@ pub struct Tally {
 }
 
 /// What stands before the next event; `index` is the number of this one.
+#[inline(always)]
 pub fn counted(classes: &[Class], tally: Tally, event: Event, index: usize) -> Tally
     requires room { index + 1 < 2 ^ 64 }
     requires within { Within index tally }
@@ -66,6 +67,7 @@ pub fn names_operation(classes: &[Class], event: Event) -> bool
     }
 }
 
+#[inline(always)]
 pub fn begins_block(tally: Tally, place: Place) -> bool
     ensures { result ≡ begins_block tally place }
 {

@@ -1,1 +1,4 @@
 pub mod SeenLemmas
+pub mod PlacedLemmas
+pub mod MarkedLemmas
+pub mod ClassLemmas

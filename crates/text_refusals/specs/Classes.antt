@@ -1,5 +1,5 @@
 -- What the operations of a text are, by their names.
-use Rattle.std.specs.Prelude.{ℕ, Bool, true, false, List, map, codes, ◌||◌, Option, Some, None, if◌then◌else◌}
+use Rattle.std.specs.Prelude.{ℕ, Bool, true, false, List, map, codes, ◌||◌, if◌then◌else◌}
 use Rattle.std.specs.Str.{bytes_eq}
 use Rattle.text_grammar.specs.declared.kinds.Kind.{Kind}
 use Rattle.text_grammar.specs.declared.kinds.Kind.TheVariants.{Text}

@@ -1,15 +1,17 @@
-//! The refusal of a text: of all kinds that stand, the one at the least place.
+//! The refusal of a text: of all kinds that stand, the one at the least place; and what was found of the text on the way.
 #![tactic(auto)]
 
 ghost use Rattle.text_refusals.specs.Refusing.{RefusesOnce};
 
 mod classes;
+mod findings;
 mod gathered;
+mod places;
 mod refusing;
 mod spells;
 
-pub use classes::classes as operation_classes;
-pub use refusing::refusal;
+pub use findings::Findings;
+pub use refusing::{find, refusal};
 pub use spells::Spells;
 
 /// A text is refused in one way, or by nothing.

@@ -1,17 +1,20 @@
-//! The refusal of a text.
+//! What is found of a text, and its refusal.
 
 ghost use Rattle.std.specs.Prelude.{◌≡◌, ◌≤◌, ◌<◌, ◌^◌, ◌++◌, ◌∷◌, [], IfOk, length, map, slice_get};
 ghost use Rattle.text_events.specs.Names.{names_of};
 ghost use Rattle.text_events.specs.Source.{events_of};
-ghost use Rattle.text_refusals.specs.Refusing.{Refuses, at_byte, at_word, before, end_kind, ended, refusal_of, typed_kinds, used_kinds};
+ghost use Rattle.text_refusals.specs.Classes.{classes_of};
+ghost use Rattle.text_refusals.specs.Findings.{AreFindings, Finds};
+ghost use Rattle.text_refusals.specs.Refusing.{Refuses, at_byte, at_word, before, end_kind, ended, events_seen};
 ghost use Rattle.text_refusals.specs.Found.{seen_of};
-ghost use Rattle.text_refusals.specs.Spelling.{indexes_of, spelling_of};
 ghost use Rattle.text_events.specs.Looking.{end_of, ending_of};
-ghost use Rattle.text_scopes.specs.Bodies.{class_in};
-ghost use Rattle.text_kinds.specs.Plain.{plain_kinds};
+ghost use Rattle.text_kinds.specs.declared.found.Kind.TheVariants.{UndefinedBlock, UndefinedValue};
+ghost use Rattle.text_kinds.specs.Kinds.{least};
+ghost use Rattle.text_kinds.specs.Plain.{found_at};
 
 use crate::classes::classes;
-use crate::gathered::{typed_kinds, used_kinds};
+use crate::findings::Findings;
+use crate::gathered::{Resolved, resolve_names, typed_kinds, used_kinds};
 use crate::spells::Spells;
 use std::alloc::{AllocError, Global};
 use text_events::{EndKind, Ending, Event, Look, Source, events, find_ending, look_at, names};
@@ -24,40 +27,86 @@ pub fn refusal(alloc: Global, text: &[u8], allowed: bool) -> Result<Option<Found
     requires { length text.now ≤ 2 ^ 24 }
     ensures { IfOk result (Refuses text.now allowed) }
 {
+    let findings = find(alloc, text, allowed)?;
+    Ok(findings.refusal)
+}
+
+/// What is found of a text. Unregistered operations are read where they are allowed.
+pub fn find(alloc: Global, text: &[u8], allowed: bool) -> Result<Findings, AllocError>
+    requires { length text.now ≤ 2 ^ 24 }
+    ensures { IfOk result (Finds text.now allowed) }
+{
     let cut = cut(alloc, text)?;
     let names = names(alloc, text, &cut.words)?;
     if names.len() != cut.words.len() {
         return Err(AllocError);
     }
     let look = look_at(alloc, &cut.words, &names)?;
-    judge(alloc, text, allowed, &cut, &names, &look)
+    findings_of(alloc, text, allowed, cut, names, look)
 }
 
-/// The refusal of a text of which this was found.
+/// What is found of a text of which this was seen.
+fn findings_of(
+    alloc: Global,
+    text: &[u8],
+    allowed: bool,
+    cut: Words,
+    names: Vec<u32>,
+    look: Look,
+) -> Result<Findings, AllocError>
+    requires { names.items ≡ names_of text.now cut.words.items }
+    ensures { IfOk result (AreFindings text.now allowed (seen_of cut look)) }
+{
+    let classes = classes(alloc, text, &cut.words, &names)?;
+    let events = seen_events(alloc, names, &look)?;
+    judge(alloc, text, allowed, cut, look, classes, events)
+}
+
+/// The same, of these events.
 fn judge(
     alloc: Global,
     text: &[u8],
     allowed: bool,
-    cut: &Words,
-    names: &[u32],
-    look: &Look,
-) -> Result<Option<Found>, AllocError>
-    requires { names.now ≡ names_of text.now cut.now.words.items }
-    ensures { IfOk result (λ o. o ≡ refusal_of text.now allowed (seen_of cut.now look.now)) }
+    cut: Words,
+    look: Look,
+    classes: Vec<Class>,
+    events: Vec<Event>,
+) -> Result<Findings, AllocError>
+    requires few { length events.items < 2 ^ 32 }
+    requires events { events.items ≡ events_seen text.now (seen_of cut look) }
+    requires classes { classes.items ≡ classes_of text.now cut.words.items }
+    ensures { IfOk result (AreFindings text.now allowed (seen_of cut look)) }
 {
-    let seen = seen_events(alloc, names, look)?;
-    let classes = classes(alloc, text, &cut.words)?;
-    let others = others(alloc, text, allowed, cut, look, &classes, &seen)?;
-    let uses = uses(alloc, cut, &classes, &seen)?;
-    Ok(least(&others, &uses))
+    let mut events = events;
+    let plain = plain_kinds(alloc, &classes, allowed, &events)?;
+    let uses = resolve_names(alloc, &classes, &events)?;
+    let spells = Spells {
+        source: Source {
+            text,
+            words: &cut.words,
+        },
+    };
+    let definitions = &uses.values.definitions;
+    let typed = typed_kinds(alloc, &spells, definitions, &mut events, &look.places)?;
+    let refusal = soonest(alloc, text, &cut, &look, &plain, &typed.found, &uses)?;
+    Ok(Findings {
+        refusal,
+        words: cut.words,
+        classes,
+        events,
+        terms: typed.terms,
+        begun: typed.begun,
+        values: uses.values.definitions,
+        labels: uses.labels.definitions,
+    })
 }
 
 /// The events that are looked at.
-fn seen_events(alloc: Global, names: &[u32], look: &Look) -> Result<Vec<Event>, AllocError>
-    ensures is { IfOk result (λ v. v.items ≡ before (end_of look.now.refusal look.now.whole (length look.now.places.items)) (events_of look.now.places.items names.now)) }
+fn seen_events(alloc: Global, names: Vec<u32>, look: &Look) -> Result<Vec<Event>, AllocError>
+    ensures is { IfOk result (λ v. v.items ≡ before (end_of look.now.refusal look.now.whole (length look.now.places.items)) (events_of look.now.places.items names.items)) }
     ensures room { IfOk result (λ v. length v.items < 2 ^ 32) }
 {
-    let mut all = events(alloc, &look.places, names)?;
+    let mut all = events(alloc, &look.places, &names)?;
     if let Some(count) = look.end() {
         all.truncate(count);
     }
@@ -67,42 +116,42 @@ fn seen_events(alloc: Global, names: &[u32], look: &Look) -> Result<Vec<Event>, 
     Ok(all)
 }
 
-fn others(
+/// The soonest of these refusals, of those of uses and of where looking ends.
+fn soonest(
     alloc: Global,
     text: &[u8],
-    allowed: bool,
     cut: &Words,
     look: &Look,
-    classes: &[Class],
-    events: &[Event],
-) -> Result<Vec<Option<Found>>, AllocError>
-    requires { length events.now < 2 ^ 32 }
-    ensures { IfOk result (λ v. v.items ≡ map (at_byte cut.now.words.items) (plain_kinds (class_in classes.now) allowed events.now ++ typed_kinds (spelling_of text.now cut.now.words.items) (indexes_of text.now cut.now.words.items) (class_in classes.now) events.now)
-        ++ ended (ending_of (length text.now) cut.now.words.items cut.now.fault look.now.places.items look.now.whole look.now.refusal) ∷ []) }
+    plain: &[Option<Found>],
+    typed: &[Option<Found>],
+    uses: &Resolved,
+) -> Result<Option<Found>, AllocError>
+    ensures { IfOk result (λ o. o ≡ least (map (at_byte cut.now.words.items) (plain.now ++ typed.now)
+        ++ ended (ending_of (length text.now) cut.now.words.items cut.now.fault look.now.places.items look.now.whole look.now.refusal) ∷ [])
+        (map (at_byte cut.now.words.items) (found_at UndefinedValue uses.now.values.undefined ∷ found_at UndefinedBlock uses.now.labels.undefined ∷ []))) }
 {
-    let source = Source {
-        text,
-        words: &cut.words,
-    };
-    let mut found = plain_kinds(alloc, classes, allowed, events)?;
-    let typed = typed_kinds(alloc, &Spells { source }, classes, events)?;
-    found.extend_from_slice(&typed)?;
-    let mut all = placed(alloc, &cut.words, &found)?;
-    all.push(ended(find_ending(text.len(), &cut.words, cut.fault, look)))?;
-    Ok(all)
+    let end = ended(find_ending(text.len(), &cut.words, cut.fault, look));
+    let others = others(alloc, &cut.words, plain, typed, end)?;
+    let used = used_kinds(alloc, uses)?;
+    let used = placed(alloc, &cut.words, &used)?;
+    Ok(least(&others, &used))
 }
 
-fn uses(
+/// All refusals but those of uses, by their bytes.
+fn others(
     alloc: Global,
-    cut: &Words,
-    classes: &[Class],
-    events: &[Event],
+    words: &[Word],
+    plain: &[Option<Found>],
+    typed: &[Option<Found>],
+    end: Option<Found>,
 ) -> Result<Vec<Option<Found>>, AllocError>
-    requires { length events.now < 2 ^ 32 }
-    ensures { IfOk result (λ v. v.items ≡ map (at_byte cut.now.words.items) (used_kinds (class_in classes.now) events.now)) }
+    ensures { IfOk result (λ v. v.items ≡ map (at_byte words.now) (plain.now ++ typed.now) ++ end ∷ []) }
 {
-    let found = used_kinds(alloc, classes, events)?;
-    placed(alloc, &cut.words, &found)
+    let mut found = plain.to_vec(alloc)?;
+    found.extend_from_slice(typed)?;
+    let mut all = placed(alloc, words, &found)?;
+    all.push(end)?;
+    Ok(all)
 }
 
 /// The refusals by their bytes.

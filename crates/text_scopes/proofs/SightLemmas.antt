@@ -6,7 +6,7 @@ use Rattle.text_events.specs.declared.event.Event.{Event}
 use Rattle.text_scopes.specs.declared.steps.Step.{Step}
 use Rattle.text_scopes.specs.declared.steps.Step.TheVariants as steps
 use Rattle.text_scopes.specs.declared.scopes.Scopes.{Scopes}
-use Rattle.text_scopes.specs.Names.{NamesBelow}
+use Rattle.text_scopes.specs.Names.{NamesBelow, is_named}
 use Rattle.text_scopes.specs.Seen.{Turn, first_undefined, mirror, resolved, seen, stands_for, told, turned, turns}
 use Rattle.text_scopes.specs.Sights.{either, first_missing, is_use, join, lacks, read, sights}
 use Rattle.text_scopes.specs.Levels.{Stands, from, levels}
@@ -45,16 +45,43 @@ read_at true ss es i at step s e same within is are =
     pair_with : Event → Step → Turn
     pair_with e step = (step, e)
 
--- what was found is what is seen from the next turn
-pub sees : (out : Bool) (ts : List Turn) (i count : ℕ) (es : List Event) (at : ℕ) (e : Event) (scopes : Scopes) (table : List (Option ℕ)) (found : Option ℕ)
-    → at < length es → NamesBelow count es → length table ≡ count → Stands scopes table (levels out (reverse (take i ts))) → found ≡ from scopes.start (get_or table (get_or es at e).name None)
-    → found ≡ seen out (get_or es at e).name 0 (reverse (take i ts))
-sees out ts i count es at e scopes table found within below long h is =
-    let known : (get_or es at e).name < count = below at e within in
-    found_seen out (reverse (take i ts)) scopes table (get_or es at e).name found (omega arith) h is
+-- a step that names keeps to it, read from the end
+pub turned_named : (mirrored : Bool) (step : Step) → is_named (if mirrored then turned step else step) ≡ is_named step
+turned_named false step = refl
+turned_named true steps.Defines = refl
+turned_named true steps.Uses = refl
+turned_named true steps.Misses = refl
+turned_named true steps.Opens = refl
+turned_named true steps.Closes = refl
+turned_named true steps.Ends = refl
+turned_named true steps.Stays = refl
+
+told_so : (step : Step) (found is : Option ℕ) → (is_named step ≡ true → found ≡ is) → told step found ≡ told step is
+told_so steps.Uses found is h = ap (told steps.Uses) (h refl)
+told_so steps.Defines found is h = refl
+told_so steps.Misses found is h = refl
+told_so steps.Opens found is h = refl
+told_so steps.Closes found is h = refl
+told_so steps.Ends found is h = refl
+told_so steps.Stays found is h = refl
+
+-- what is told is what is seen from the next turn
+pub sees : (out : Bool) (ts : List Turn) (i : ℕ) (step : Step) (name : ℕ) (scopes : Scopes) (table : List (Option ℕ)) (found : Option ℕ)
+    → (is_named step ≡ true → name < length table) → Stands scopes table (levels out (reverse (take i ts))) → found ≡ from scopes.start (get_or table name None)
+    → told step found ≡ told step (seen out name 0 (reverse (take i ts)))
+sees out ts i step name scopes table found known h is =
+    told_so step found (seen out name 0 (reverse (take i ts))) (λ named. found_seen out (reverse (take i ts)) scopes table name found (known named) h is)
+
+-- a name that is defined or used is in the table
+pub known : (ss : List Step) (es : List Event) (at count : ℕ) (s : Step) (e : Event) (step : Step) (mirrored : Bool) (table : List (Option ℕ)) → at < length es → NamesBelow count ss es
+    → step ≡ (if mirrored then turned (get_or ss at s) else get_or ss at s) → length table ≡ count → is_named step ≡ true → (get_or es at e).name < length table
+known ss es at count s e step mirrored table within below is long named =
+    let own : is_named (get_or ss at s) ≡ true = sym (turned_named mirrored (get_or ss at s)) ∙ ap is_named (sym is) ∙ named in
+    let low : (get_or es at e).name < count = below at s e within own in
+    omega (arith, low, long)
 
 pub sights_on : (out : Bool) (ts : List Turn) (i : ℕ) (t : Turn) (step : Step) (e : Event) (found : Option ℕ) (items more whole : List (Option ℕ)) → i < length ts → get_or ts i t ≡ (step, e)
-    → found ≡ seen out e.name 0 (reverse (take i ts)) → more ≡ items ++ told step found
+    → told step found ≡ told step (seen out e.name 0 (reverse (take i ts))) → more ≡ items ++ told step found
     → items ++ sights out (reverse (take i ts)) (drop i ts) ≡ whole → more ++ sights out (reverse (take (i + 1) ts)) (drop (i + 1) ts) ≡ whole
 sights_on out ts i t step e found items more whole within at is pushed h =
     let next : reverse (take (i + 1) ts) ≡ (step, e) ∷ reverse (take i ts) = next_turn ts i t within ∙ ap (λ (u : Turn). u ∷ reverse (take i ts)) at in

@@ -5,8 +5,9 @@ use Rattle.line_grammar.specs.Language.{first_at}
 use Rattle.text_events.specs.declared.event.Event.{Event}
 use Rattle.text_events.proofs.FirstLemmas.{ahead, goes_on}
 use Rattle.text_scopes.specs.declared.steps.Step.{Step}
+use Rattle.text_scopes.specs.declared.steps.Step.TheVariants as steps
 use Rattle.text_scopes.specs.declared.scopes.Scopes.{Scopes}
-use Rattle.text_scopes.specs.Names.{NamesBelow}
+use Rattle.text_scopes.specs.Names.{NamesBelow, is_named}
 use Rattle.text_scopes.specs.Seen.{Turn, again, passed, seen, turns}
 use Rattle.text_scopes.specs.Levels.{Stands, from, levels}
 use Rattle.text_scopes.proofs.SeenLemmas.{found_seen}
@@ -54,12 +55,12 @@ looks_on out ts i t whole within is h =
 
 -- what was tested of the next turn is whether it defines a name that is seen
 pub tested : (out : Bool) (ss : List Step) (es : List Event) (i : ℕ) (s : Step) (e : Event) (answer : Bool) (found : Option ℕ) (scopes : Scopes) (table : List (Option ℕ)) (count : ℕ)
-    → length ss ≡ length es → i < length es → NamesBelow count es → length table ≡ count → Stands scopes table (levels out (reverse (take i (turns ss es))))
+    → length ss ≡ length es → i < length es → NamesBelow count ss es → length table ≡ count → Stands scopes table (levels out (reverse (take i (turns ss es))))
     → found ≡ from scopes.start (get_or table (get_or es i e).name None)
-    → ((outward : Bool) (before : List Turn) (f : Event) → found ≡ seen outward f.name 0 before → answer ≡ again outward before (get_or ss i s, f))
+    → ((outward : Bool) (before : List Turn) (f : Event) → (get_or ss i s ≡ steps.Defines → found ≡ seen outward f.name 0 before) → answer ≡ again outward before (get_or ss i s, f))
     → again out (reverse (take i (turns ss es))) (get_or (turns ss es) i (s, e)) ≡ answer
 tested out ss es i s e answer found scopes table count same within below long h is asked =
-    let known : (get_or es i e).name < count = below i e within in
-    let inside : (get_or es i e).name < length table = omega arith in
     let before : List Turn = reverse (take i (turns ss es)) in
-    ap (again out before) (turn_at ss es i s e same within) ∙ sym (asked out before (get_or es i e) (found_seen out before scopes table (get_or es i e).name found inside h is))
+    ap (again out before) (turn_at ss es i s e same within)
+    ∙ sym (asked out before (get_or es i e) (λ defines. found_seen out before scopes table (get_or es i e).name found
+    (let known : (get_or es i e).name < count = below i s e within (ap is_named defines) in omega (arith, known, long)) h is))

@@ -28,6 +28,7 @@ pub struct Body {
 }
 
 /// What the name is; those of no operation are `Unknown`.
+#[inline(always)]
 pub fn class_of(classes: &[Class], name: u32) -> Class
     ensures { result ≡ class_in classes.now name }
 {
@@ -60,6 +61,7 @@ pub fn opens_body(body: Body) -> bool
 }
 
 /// Where the next event stands.
+#[inline(always)]
 pub fn behind(classes: &[Class], body: Body, event: Event) -> Body
     requires { body.within + 1 < 2 ^ 64 }
     ensures is { result ≡ behind (class_in classes.now) body event }

@@ -55,7 +55,7 @@ fn sights(
     requires room { length events.now < 2 ^ 32 }
     ensures { IfOk result (λ v. v.items ≡ sights outward [] (read mirrored (turns steps.now events.now))) }
 {
-    let names = name_count(events);
+    let names = name_count(steps, events);
     let mut slots: Vec<Option<u32>> = vec![in alloc; None; names]?;
     let table = slots.as_mut_slice();
     let mut scopes = Scopes {
@@ -82,6 +82,7 @@ fn index_of(mirrored: bool, passed: usize, count: usize) -> usize
     if mirrored { count - 1 - passed } else { passed }
 }
 
+#[inline(always)]
 fn step_at(mirrored: bool, step: Step) -> Step
     ensures { result ≡ (if mirrored then turned step else step) }
 {
@@ -96,6 +97,7 @@ fn step_at(mirrored: bool, step: Step) -> Step
     }
 }
 
+#[inline(always)]
 fn tell(seen: &mut Vec<Option<u32>>, step: Step, found: Option<u32>) -> Result<(), AllocError>
     ensures { IfOk result (λ u. seen.new.items ≡ seen.old.items ++ told step found) }
 {

@@ -1,8 +1,9 @@
 //! A table of the definitions in scope, with what it takes to leave a region again.
 
-ghost use Rattle.std.specs.Prelude.{◌≡◌, ◌+◌, ◌<◌, ◌^◌, ◌++◌, ◌∷◌, ℕ, suc, IfOk, List, [], get_or, set, length, if◌then◌else◌};
+ghost use Rattle.std.specs.Prelude.{◌≡◌, ◌+◌, ◌<◌, ◌^◌, ◌++◌, ◌∷◌, ℕ, suc, true, IfOk, List, [], get_or, set, length, if◌then◌else◌};
 ghost use Rattle.text_events.specs.declared.event.Event.{Event};
 ghost use Rattle.text_scopes.specs.Seen.{Turn};
+ghost use Rattle.text_scopes.specs.Names.{is_named};
 ghost use Rattle.text_scopes.specs.Levels.{Level, Stands, from, levels, nothing};
 
 use crate::steps::Step;
@@ -26,11 +27,11 @@ pub struct Scopes {
 }
 
 /// The definition of the name that is seen.
+#[inline(always)]
 pub fn find(scopes: &Scopes, table: &[Option<u32>], name: u32) -> Option<u32>
-    requires { name < length table.now }
     ensures { result ≡ from scopes.now.start (get_or table.now name None) }
 {
-    match table[name as usize] {
+    match slot(table, name) {
         Some(place) => {
             if scopes.start <= place {
                 Some(place)
@@ -42,7 +43,16 @@ pub fn find(scopes: &Scopes, table: &[Option<u32>], name: u32) -> Option<u32>
     }
 }
 
+/// What the table has of the name.
+fn slot(table: &[Option<u32>], name: u32) -> Option<u32>
+    ensures { result ≡ get_or table.now name None }
+{
+    let at = name as usize;
+    if at < table.len() { table[at] } else { None }
+}
+
 /// Takes a turn: the table has the definitions that are seen behind it.
+#[inline(always)]
 pub fn take(
     outward: bool,
     step: Step,
@@ -51,7 +61,7 @@ pub fn take(
     scopes: &mut Scopes,
     table: &mut [Option<u32>],
 ) -> Result<(), AllocError>
-    requires known { name < length table.old }
+    requires known { is_named step ≡ true → name < length table.old }
     requires room { place + 1 < 2 ^ 32 }
     ensures { IfOk result (λ u. (before : List Turn) (e : Event) → e.name ≡ name → length before ≡ place → Stands scopes.old table.old (levels outward before) → Stands scopes.new table.new (levels outward ((step, e) ∷ before))) }
 {

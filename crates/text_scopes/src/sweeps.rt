@@ -2,6 +2,7 @@
 
 ghost use Rattle.std.specs.Prelude.{◌≡◌, ◌<◌, ◌^◌, Bool, IfOk, List, length};
 ghost use Rattle.text_events.specs.declared.event.Event.{Event};
+ghost use Rattle.text_scopes.specs.declared.steps.Step.TheVariants as Step;
 ghost use Rattle.text_scopes.specs.Seen.{Turn, again, first_again, seen, turns};
 
 use crate::names::name_count;
@@ -21,7 +22,7 @@ pub fn first_again(
     requires room { length events.now < 2 ^ 32 }
     ensures { IfOk result (λ o. o ≡ first_again outward (turns steps.now events.now)) }
 {
-    let names = name_count(events);
+    let names = name_count(steps, events);
     let mut slots: Vec<Option<u32>> = vec![in alloc; None; names]?;
     let table = slots.as_mut_slice();
     let mut scopes = Scopes {
@@ -41,7 +42,7 @@ pub fn first_again(
 }
 
 fn is_again(step: Step, found: Option<u32>) -> bool
-    ensures { (outward : Bool) (before : List Turn) (e : Event) → found ≡ seen outward e.name 0 before → result ≡ again outward before (step, e) }
+    ensures { (outward : Bool) (before : List Turn) (e : Event) → (step ≡ Step.Defines → found ≡ seen outward e.name 0 before) → result ≡ again outward before (step, e) }
 {
     match step {
         Step::Defines => found.is_some(),

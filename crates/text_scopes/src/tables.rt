@@ -82,6 +82,7 @@ fn steps_of(
     Ok(steps)
 }
 
+#[inline(always)]
 fn step_of(names: Names, body: Body, place: Place) -> Step
     ensures { result ≡ step_of names body place }
 {

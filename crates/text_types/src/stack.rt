@@ -68,6 +68,7 @@ fn join(terms: &mut Terms, stack: &mut Vec<u32>, form: Form, value: u64) -> Resu
 }
 
 /// Does this to the terms on the stack, where the alias of the event has this number.
+#[inline(always)]
 pub fn act(
     terms: &mut Terms,
     stack: &mut Vec<u32>,

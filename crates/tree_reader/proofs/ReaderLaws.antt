@@ -1,39 +1,65 @@
 -- From what the code finds of a text to its module.
-use Rattle.std.proofs.Common.{◌≡◌, ℕ, Bool, List, Option, Some, None, Ok, Err, Result, ◌∙◌, ap, subst}
+use Rattle.std.proofs.Common.{◌≡◌, ℕ, Bool, List, Option, Some, None, Ok, Err, Result, sym, ◌∙◌, ap, subst}
 use Rattle.std.specs.Prelude.{IfOk}
 use Rattle.tree_model.specs.declared.op_tree.ModuleTree.{ModuleTree}
 use Rattle.text_grammar.specs.declared.words.Word.{Word}
-use Rattle.text_events.specs.declared.event.Event.{Event}
 use Rattle.text_events.specs.Names.{names_of}
 use Rattle.text_events.specs.Source.{events_of}
-use Rattle.text_scopes.specs.declared.bodies.Class.{Class}
+use Rattle.text_types.specs.Stack.{Stands}
+use Rattle.text_scopes.specs.declared.tables.Names.TheVariants as names
 use Rattle.text_scopes.specs.Bodies.{class_in}
+use Rattle.text_scopes.specs.Tables.{definitions}
 use Rattle.text_refusals.specs.Classes.{classes_of}
 use Rattle.text_kinds.specs.declared.found.Found.{Found}
 use Rattle.text_kinds.specs.declared.found.Kind.{Kind}
-use Rattle.text_refusals.specs.Refusing.{Seen, IsSeen, Refuses}
+use Rattle.text_refusals.specs.declared.findings.Findings.{Findings}
+use Rattle.text_refusals.specs.Findings.{AreFindings, Finds}
+use Rattle.text_refusals.specs.Refusing.{Seen, Refuses, before, events_seen}
 use Rattle.text_refusals.specs.Spelling.{spelling_of}
+use Rattle.text_refusals.proofs.SeenLemmas.{unrefused}
+use Rattle.event_trees.specs.Roles.{terms_at}
 use Rattle.event_trees.specs.Wording.{wording_of}
 use Rattle.event_trees.specs.Modules.{denoted}
 use Rattle.tree_reading.specs.Reading.{Denotes, Reads, ReadsNot, denoted_by}
+use Rattle.tree_reader.specs.Found.{Unrefused}
 use Rattle.tree_reading.proofs.ReadingLaws.{never_both, one_module, refused_once}
 
-same_module : (text : List ℕ) (s : Seen) (words : List Word) (names : List ℕ) (classes : List Class) (es : List Event) → words ≡ s.words → names ≡ names_of text s.words
-    → classes ≡ classes_of text s.words → es ≡ events_of s.places names → denoted (spelling_of text words) (wording_of text words) (class_in classes) es ≡ denoted_by text s
-same_module text s words names classes es w n c e =
-    ap (λ ws. denoted (spelling_of text ws) (wording_of text ws) (class_in classes) es) w
-    ∙ ap (λ cs. denoted (spelling_of text s.words) (wording_of text s.words) (class_in cs) es) c
-    ∙ ap (denoted (spelling_of text s.words) (wording_of text s.words) (class_in (classes_of text s.words))) (e ∙ ap (events_of s.places) n)
+-- what was found is whole where nothing refuses it
+pub events_whole : (text : List ℕ) (allowed : Bool) (s : Seen) (f : Findings) → AreFindings text allowed s f → f.refusal ≡ None → f.events.items ≡ events_of s.places (names_of text s.words)
+events_whole text allowed s f h none =
+    h.events ∙ ap (λ o. before o (events_of s.places (names_of text s.words))) (unrefused text allowed s (sym none ∙ h.refusal))
 
-pub denoted_is : {E : Type 0} (text : List ℕ) (s : Seen) (words : List Word) (names : List ℕ) (classes : List Class) (es : List Event) (r : Result ModuleTree E) → words ≡ s.words
-    → names ≡ names_of text s.words → classes ≡ classes_of text s.words → es ≡ events_of s.places names
-    → IfOk r (λ m. m ≡ denoted (spelling_of text words) (wording_of text words) (class_in classes) es) → IfOk r (λ m. m ≡ denoted_by text s)
-denoted_is text s words names classes es (Ok m) w n c e h = h ∙ same_module text s words names classes es w n c e
-denoted_is text s words names classes es (Err e) w n c f h = tt
+same_module : (text : List ℕ) (allowed : Bool) (s : Seen) (f : Findings) → AreFindings text allowed s f → f.refusal ≡ None
+    → denoted (spelling_of text f.words.items) (wording_of text f.words.items) (class_in f.classes.items) f.events.items ≡ denoted_by text s
+same_module text allowed s f h none =
+    ap (λ ws. denoted (spelling_of text ws) (wording_of text ws) (class_in f.classes.items) f.events.items) h.words
+    ∙ ap (λ cs. denoted (spelling_of text s.words) (wording_of text s.words) (class_in cs) f.events.items) h.classes
+    ∙ ap (denoted (spelling_of text s.words) (wording_of text s.words) (class_in (classes_of text s.words))) (events_whole text allowed s f h none)
 
-pub denotes : {E : Type 0} (text : List ℕ) (s : Seen) (r : Result ModuleTree E) → IsSeen text s → IfOk r (λ m. m ≡ denoted_by text s) → IfOk r (Denotes text)
-denotes text s (Ok m) seen h = (s, seen, h)
-denotes text s (Err e) seen h = tt
+pub denotes : {E : Type 0} (text : List ℕ) (f : Findings) (words : List Word) (r : Result ModuleTree E) → Unrefused text f → words ≡ f.words.items
+    → IfOk r (λ m. m ≡ denoted (spelling_of text words) (wording_of text words) (class_in f.classes.items) f.events.items) → IfOk r (Denotes text)
+denotes text f words (Ok m) (allowed, (s, seen, h), none) w is =
+    (s, seen, is ∙ ap (λ ws. denoted (spelling_of text ws) (wording_of text ws) (class_in f.classes.items) f.events.items) w ∙ same_module text allowed s f h none)
+denotes text f words (Err e) found w is = tt
+
+-- What the tree is made from
+
+pub begun_stands : (text : List ℕ) (f : Findings) (words : List Word) → Unrefused text f → words ≡ f.words.items
+    → Stands f.terms.nodes.keys f.begun.items (terms_at (spelling_of text words) f.events.items)
+begun_stands text f words (allowed, (s, seen, h), none) w =
+    subst (λ ws. Stands f.terms.nodes.keys f.begun.items (terms_at (spelling_of text ws) f.events.items)) (sym h.words ∙ sym w)
+    (subst (λ es. Stands f.terms.nodes.keys f.begun.items (terms_at (spelling_of text s.words) es)) (sym h.events) h.begun)
+
+pub values_stand : (text : List ℕ) (f : Findings) → Unrefused text f → f.values.items ≡ definitions names.Values (class_in f.classes.items) f.events.items
+values_stand text f (allowed, (s, seen, h), none) =
+    h.values ∙ ap (λ cs. definitions names.Values (class_in cs) (events_seen text s)) (sym h.classes) ∙ ap (definitions names.Values (class_in f.classes.items)) (sym h.events)
+
+pub labels_stand : (text : List ℕ) (f : Findings) → Unrefused text f → f.labels.items ≡ definitions names.Labels (class_in f.classes.items) f.events.items
+labels_stand text f (allowed, (s, seen, h), none) =
+    h.labels ∙ ap (λ cs. definitions names.Labels (class_in cs) (events_seen text s)) (sym h.classes) ∙ ap (definitions names.Labels (class_in f.classes.items)) (sym h.events)
+
+pub unrefused_so : (text : List ℕ) (allowed : Bool) (f : Findings) → Finds text allowed f → f.refusal ≡ None → Unrefused text f
+unrefused_so text allowed f h none = (allowed, h, none)
 
 -- The answers
 

@@ -2,7 +2,6 @@
 #![tactic(auto)]
 
 mod reading;
-mod roles;
 mod trees;
 
 pub use reading::{ReadRefusal, read_tree};

@@ -8,8 +8,8 @@ ghost use Rattle.tree_reading.specs.Reading.{Reads, ReadsNot};
 
 use crate::trees::tree_of;
 use std::alloc::{AllocError, Global};
-use text_kinds::{Found, Kind};
-use text_refusals::refusal;
+use text_kinds::Kind;
+use text_refusals::find;
 use tree_model::ModuleTree;
 
 /// Why a text is not read.
@@ -29,15 +29,17 @@ pub fn read_tree(alloc: Global, text: &[u8], allow: bool) -> Result<ModuleTree, 
     ensures only { (A : ModuleTree) → Reads text.now allow A → Gives A result }
     ensures refused { (place : ℕ) (kind : Kind) → ReadsNot text.now allow place kind → Refuses place kind result }
 {
-    match refusal(alloc, text, allow) {
-        Ok(None) => match tree_of(alloc, text) {
-            Ok(tree) => Ok(tree),
-            Err(AllocError) => Err(ReadRefusal::NoMemory),
+    match find(alloc, text, allow) {
+        Ok(found) => match found.refusal {
+            None => match tree_of(alloc, text, &found) {
+                Ok(tree) => Ok(tree),
+                Err(AllocError) => Err(ReadRefusal::NoMemory),
+            },
+            Some(refusal) => Err(ReadRefusal::At {
+                place: refusal.place,
+                kind: refusal.kind,
+            }),
         },
-        Ok(Some(found)) => Err(ReadRefusal::At {
-            place: found.place,
-            kind: found.kind,
-        }),
         Err(AllocError) => Err(ReadRefusal::NoMemory),
     }
 }

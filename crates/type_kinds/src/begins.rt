@@ -33,6 +33,7 @@ fn entry_begin(next: Option<Place>) -> Begin
 }
 
 /// What begins at the place, where a minus stands before it or not, and this place is next.
+#[inline(always)]
 pub(crate) fn begin_at(place: Place, minus: bool, next: Option<Place>) -> Begin
     ensures { result ≡ begin_at place minus next }
 {

@@ -45,6 +45,7 @@ impl Tally {
     }
 
     /// The size of an alias, 0 for none.
+    #[inline(always)]
     pub(crate) fn size(&self, name: u32) -> u32
         ensures { result ≡ size_in self.now name }
     {
@@ -62,6 +63,7 @@ impl Tally {
     }
 
     /// Passes an event, where the alias has this amount with it.
+    #[inline(always)]
     pub(crate) fn pass(&mut self, event: Event, amount: u32) -> Result<(), AllocError>
         ensures moved { OnOk result (sizes_of self.new ≡ moved (sizes_of self.old) event amount) }
         ensures amount { OnOk result (self.new.amount ≤ amount) }

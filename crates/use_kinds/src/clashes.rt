@@ -7,7 +7,9 @@ ghost use Rattle.term_table.specs.Terms.{Term, nothing, term_at};
 ghost use Rattle.text_types.specs.Spelling.{Spelling};
 ghost use Rattle.text_types.specs.Items.{Aliases, begun, begins};
 ghost use Rattle.text_types.specs.Stack.{Stands, Within};
-ghost use Rattle.text_scopes.specs.Bodies.{class_in};
+ghost use Rattle.text_scopes.specs.declared.bodies.Class.{Class};
+ghost use Rattle.text_scopes.specs.declared.tables.Names.TheVariants.{Values};
+ghost use Rattle.text_scopes.specs.Tables as tables;
 ghost use Rattle.text_kinds.specs.declared.found.Kind.TheVariants.{ResultIndex, UseType};
 ghost use Rattle.text_kinds.specs.Kinds.{least_of, sooner};
 ghost use Rattle.use_kinds.specs.Same.{same_term};
@@ -24,7 +26,6 @@ use term_table::Terms;
 use text_events::Event;
 use text_grammar::Place;
 use text_kinds::{Found, Kind, least};
-use text_scopes::{Class, Names, resolve};
 
 fn is_use(place: Place) -> bool
     ensures { result ≡ is_use place }
@@ -246,20 +247,20 @@ fn first_of_uses<S: Indexed>(
     first
 }
 
-/// The first use that clashes with its definition, where these numbers stand for what begins at each event.
+/// The first use that clashes with its definition, where these numbers stand for what begins at each event, and `uses` are the
+/// definitions of the uses of values.
 pub fn first_clash<S: Indexed>(
     alloc: Global,
     words: &S,
-    classes: &[Class],
     terms: &Terms,
     events: &[Event],
     numbers: &[u32],
+    uses: &[Option<u32>],
 ) -> Result<Option<Found>, AllocError>
     requires numbers { Within (length terms.now.nodes.keys) numbers.now }
     requires room { length events.now < 2 ^ 32 }
-    ensures { (aliases : Aliases) → Stands terms.now.nodes.keys numbers.now (begun (S.spelling words.now) aliases events.now) → IfOk result (λ o. o ≡ first_clash (S.spelling words.now) (S.indexes words.now) aliases (class_in classes.now) events.now) }
+    ensures { (aliases : Aliases) (class : ℕ → Class) → Stands terms.now.nodes.keys numbers.now (begun (S.spelling words.now) aliases events.now) → uses.now ≡ tables.definitions Values class events.now → IfOk result (λ o. o ≡ first_clash (S.spelling words.now) (S.indexes words.now) aliases class events.now) }
 {
-    let uses = resolve(alloc, Names::Values, classes, events)?;
     let signatures = signatures(alloc, events)?;
     let types = types_of(alloc, words, terms, events, numbers, &signatures)?;
     let said = Said {
@@ -269,5 +270,5 @@ pub fn first_clash<S: Indexed>(
         signatures: &signatures,
         types: &types,
     };
-    Ok(first_of_uses(words, said, &uses.definitions))
+    Ok(first_of_uses(words, said, uses))
 }

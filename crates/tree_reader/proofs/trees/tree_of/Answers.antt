@@ -1,15 +1,15 @@
 use Rattle.std.proofs.Common.{rules}
-use Rattle.text_refusals.specs.Found.{seen_of}
-use Rattle.text_refusals.proofs.SeenLemmas.{is_seen}
-use Rattle.tree_reader.proofs.ReaderLaws.{denotes}
+use Rattle.tree_reader.proofs.ReaderLaws.{begun_stands, denotes, labels_stand, values_stand}
 use Rattle.tree_reader.proofs.trees.tree_of.Goals as goal
 
+pub denoted-requires-clause-begun : goal.denoted-requires-clause-begun
+denoted-requires-clause-begun c = begun_stands c.args.text.now c.args.found.now c.deref.result.now c.requires (search rules)
+
+pub denoted-requires-clause-values : goal.denoted-requires-clause-values
+denoted-requires-clause-values c = values_stand c.args.text.now c.args.found.now c.requires
+
+pub denoted-requires-clause-labels : goal.denoted-requires-clause-labels
+denoted-requires-clause-labels c = labels_stand c.args.text.now c.args.found.now c.requires
+
 pub returns : goal.returns
-returns c =
-    let look = c.in_ok-look.ensures in
-    let words = c.deref-2.ensures.value in
-    let names = c.deref-3.ensures.value in
-    denotes c.args.text.now (seen_of c.in_ok-cut.cut c.in_ok-look.look) c.denoted_by.result
-    (is_seen c.args.text.now (seen_of c.in_ok-cut.cut c.in_ok-look.look) c.in_ok-names.names.items (search rules) c.in_ok-cut.ensures (rw words at look.form)
-    (rw (words, names) at look.refusal) (rw (words, names) at look.found) (rw (words, names) at look.refused) (rw (words, names) at look.begun))
-    c.denoted_by.ensures
+returns c = denotes c.args.text.now c.args.found.now c.deref.result.now c.denoted.result c.requires (search rules) c.denoted.ensures
