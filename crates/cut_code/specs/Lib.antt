@@ -1,0 +1,3 @@
+pub mod Frames
+pub mod Sketches
+pub mod Pieces
