@@ -31,7 +31,6 @@ const E: Ty = Ty::Int(8);
 const M: Ty = Ty::Memref(32);
 
 /// A function `f` of one block, with the arguments of a run.
-#[derive(Clone, Copy)]
 struct Program {
     title: &'static str,
     inputs: &'static [Ty],
@@ -40,7 +39,8 @@ struct Program {
     lines: &'static [Line<'static>],
 }
 
-const PROGRAMS: &[Program] = &[
+/// New memrefs and their ends.
+const NEW_MEMREFS: &[Program] = &[
     Program {
         title: "memref.alloc of 0 elements, memref.dim",
         inputs: &[N],
@@ -96,6 +96,10 @@ const PROGRAMS: &[Program] = &[
             RETURN,
         ],
     },
+];
+
+/// Elements of memrefs.
+const ELEMENTS: &[Program] = &[
     Program {
         title: "memref.store and memref.load at the first index",
         inputs: &[N],
@@ -154,6 +158,10 @@ const PROGRAMS: &[Program] = &[
         args: &[0],
         lines: &[THREE_N, ALLOC_3, SEVEN, DEALLOC, STORE_AT, RETURN],
     },
+];
+
+/// Memrefs over bytes that are there or not.
+const BYTES: &[Program] = &[
     Program {
         title: "memref.load of an i1 from a byte of 1",
         inputs: &[],
@@ -232,6 +240,10 @@ const PROGRAMS: &[Program] = &[
             RETURN,
         ],
     },
+];
+
+/// Sizes of memrefs.
+const SIZES: &[Program] = &[
     Program {
         title: "memref.dim at 0",
         inputs: &[N],
@@ -274,6 +286,10 @@ const PROGRAMS: &[Program] = &[
         args: &[3],
         lines: &[ALLOC, CAST_4, RETURN],
     },
+];
+
+/// Values that were never set: computed with, chosen, taken.
+const UNSET_VALUES: &[Program] = &[
     Program {
         title: "llvm.add of what was never set",
         inputs: &[],
@@ -330,6 +346,10 @@ const PROGRAMS: &[Program] = &[
         args: &[],
         lines: &[UNSET_FIELDS, TAKE_UNSET, RETURN],
     },
+];
+
+/// The same: returned, stored, as pointers, sizes and indices.
+const UNSET_PLACES: &[Program] = &[
     Program {
         title: "the return of what was never set",
         inputs: &[],
@@ -379,6 +399,10 @@ const PROGRAMS: &[Program] = &[
         args: &[],
         lines: &[THREE_N, ALLOC_3, UNSET_SIZE, LOAD_UNSET, RETURN],
     },
+];
+
+/// Loads and stores by pointers.
+const POINTERS: &[Program] = &[
     Program {
         title: "llvm.store and llvm.load",
         inputs: &[],
@@ -437,6 +461,10 @@ const PROGRAMS: &[Program] = &[
         args: &[],
         lines: &[BYTES_16, MALLOC, SEVEN, FREE, STORE, RETURN],
     },
+];
+
+/// The calls that make and end buffers.
+const ALLOCATORS: &[Program] = &[
     Program {
         title: "aligned_alloc of 32 bytes at 16",
         inputs: &[],
@@ -502,6 +530,10 @@ const PROGRAMS: &[Program] = &[
             RETURN_9,
         ],
     },
+];
+
+/// Operations without a meaning.
+const WITHOUT_MEANING: &[Program] = &[
     Program {
         title: "an operation without a meaning",
         inputs: &[],
@@ -537,6 +569,10 @@ const PROGRAMS: &[Program] = &[
         args: &[],
         lines: &[UNKNOWN, UNSET, UNSET_SUM, RETURN],
     },
+];
+
+/// Entries and their arguments.
+const ENTRIES: &[Program] = &[
     Program {
         title: "a memref as a parameter of the entry",
         inputs: &[M],
@@ -621,11 +657,65 @@ fn write_fixed(alloc: Global, out: &mut String) -> Result<(), NoMemory> {
     )
 }
 
+fn write_programs(alloc: Global, out: &mut String, programs: &[Program]) -> Result<(), NoMemory> {
+    for program in programs {
+        write_program(alloc, out, program)?;
+    }
+    Ok(())
+}
+
+fn write_new_memrefs(alloc: Global, out: &mut String) -> Result<(), NoMemory> {
+    write_programs(alloc, out, NEW_MEMREFS)
+}
+
+fn write_elements(alloc: Global, out: &mut String) -> Result<(), NoMemory> {
+    write_programs(alloc, out, ELEMENTS)
+}
+
+fn write_bytes(alloc: Global, out: &mut String) -> Result<(), NoMemory> {
+    write_programs(alloc, out, BYTES)
+}
+
+fn write_sizes(alloc: Global, out: &mut String) -> Result<(), NoMemory> {
+    write_programs(alloc, out, SIZES)
+}
+
+fn write_unset_values(alloc: Global, out: &mut String) -> Result<(), NoMemory> {
+    write_programs(alloc, out, UNSET_VALUES)
+}
+
+fn write_unset_places(alloc: Global, out: &mut String) -> Result<(), NoMemory> {
+    write_programs(alloc, out, UNSET_PLACES)
+}
+
+fn write_pointers(alloc: Global, out: &mut String) -> Result<(), NoMemory> {
+    write_programs(alloc, out, POINTERS)
+}
+
+fn write_allocators(alloc: Global, out: &mut String) -> Result<(), NoMemory> {
+    write_programs(alloc, out, ALLOCATORS)
+}
+
+fn write_without_meaning(alloc: Global, out: &mut String) -> Result<(), NoMemory> {
+    write_programs(alloc, out, WITHOUT_MEANING)
+}
+
+fn write_entries(alloc: Global, out: &mut String) -> Result<(), NoMemory> {
+    write_programs(alloc, out, ENTRIES)
+}
+
 /// All rows of this kind.
 pub fn write_all(alloc: Global, out: &mut String) -> Result<(), NoMemory> {
     write_fixed(alloc, out)?;
-    for program in PROGRAMS {
-        write_program(alloc, out, program)?;
-    }
+    write_new_memrefs(alloc, out)?;
+    write_elements(alloc, out)?;
+    write_bytes(alloc, out)?;
+    write_sizes(alloc, out)?;
+    write_unset_values(alloc, out)?;
+    write_unset_places(alloc, out)?;
+    write_pointers(alloc, out)?;
+    write_allocators(alloc, out)?;
+    write_without_meaning(alloc, out)?;
+    write_entries(alloc, out)?;
     Ok(())
 }

@@ -16,8 +16,6 @@ use Rattle.run_code.specs.declared.function.Operation.{Operation, out-Operation}
 use Rattle.run_code.specs.Views.{form_of, ops_of, blocks_of, regions_of}
 use Rattle.run_code.proofs.Shapes.{op_is}
 use Rattle.table_code.specs.Agreement.{Agrees}
-use Rattle.doing_code.specs.declared.kinds.Doing as code
-use Rattle.doing_code.specs.Doings.{Does}
 use Rattle.frame_code.specs.declared.frame.Place.{Place as CodePlace}
 use Rattle.frame_code.specs.declared.frame.Moving.{Moving}
 use Rattle.frame_code.specs.Frames.{Move, Moved, MovedIf, has_regions, moves, frames_of, place_of}
@@ -77,9 +75,9 @@ pub stepped_on : {M S : Type 0} (stands : M → S → Type 0) (t : Turn) (new : 
 stepped_on stands t new m s o xs next step e is h = subst (Stepped stands t new m) (ap (λ x. model.stepping (present x) s next) e ∙ sym is) h
 
 -- an operation without regions whose operands have values, and which does this
-pub stepped_pair : {M S : Type 0} (stands : M → S → Type 0) (ask : Question → S → Reply S) (t : Turn) (old new : CodePlace) (m : M) (s : S) (op : Operation) (rest : List Operation) (d : code.Doing) (rs : List ℕ) (env : Env)
+pub stepped_pair : {M S : Type 0} (stands : M → S → Type 0) (ask : Question → S → Reply S) (t : Turn) (old new : CodePlace) (m : M) (s : S) (op : Operation) (rest : List Operation) (d : Doing) (rs : List ℕ) (env : Env)
     → old.ops.now ≡ op ∷ rest → rs ≡ (out-Operation op).results → Paired d op env
-    → ((e : Doing) → Does d e → Stepped stands t new m (performed ask e (record { results = rs; rest = ops_of rest; blocks = blocks_of old.blocks.now }) env (frames_of old) s))
+    → Stepped stands t new m (performed ask d (record { results = rs; rest = ops_of rest; blocks = blocks_of old.blocks.now }) env (frames_of old) s)
     → Stepped stands t new m (model.step ask (place_of old env) s)
 stepped_pair stands ask t old new m s op rest d rs env at same p next =
     stepped_on stands t new m s (lookups (out-Operation op).operands env) p.xs
@@ -90,7 +88,7 @@ stepped_pair stands ask t old new m s op rest d rs env at same p next =
     same
     (subst (Stepped stands t new m)
     (sym (without_regions ask s (form_of (out-Operation op).form) rs p.xs (out-Operation op).successors (regions_of (out-Operation op).regions) (record { results = rs; rest = ops_of rest; blocks = blocks_of old.blocks.now }) env (frames_of old) p.alone refl))
-    (next (does (form_of (out-Operation op).form) (out-Operation op).successors p.xs) p.does)))
+    (subst (λ e. Stepped stands t new m (performed ask e (record { results = rs; rest = ops_of rest; blocks = blocks_of old.blocks.now }) env (frames_of old) s)) p.does next)))
 
 pub stopped_there : {S : Type 0} (s : S) (o : Option (List values.Value)) (next : List values.Value → Step Place S) (step : Step Place S)
     → None ≡ o → step ≡ model.stepping (present o) s next → Stopped Outside step

@@ -13,8 +13,7 @@ use Rattle.run_code.specs.declared.function.Operation.{Operation, out-Operation}
 use Rattle.run_code.specs.Views.{form_of, packing_of}
 use Rattle.value_code.specs.Models.{values_of}
 use Rattle.table_code.specs.Agreement.{Agrees}
-use Rattle.doing_code.specs.declared.kinds.Doing as code
-use Rattle.doing_code.specs.Doings.{Does, answered}
+use Rattle.doing_code.specs.Doings.{answered}
 use Rattle.frame_code.specs.declared.frame.Place.{Place}
 use Rattle.frame_code.specs.declared.frame.Moving.{Moving}
 use Rattle.frame_code.specs.declared.frame.Moving.TheVariants as moving
@@ -77,11 +76,11 @@ performed ask d b env frames s =
     model.within frames (model.performs ask d b.results (record { ops = b.rest; blocks = b.blocks; env = env }) s)
 
 -- What is done by an operation without regions, whose operands have values. No list of them is made.
-pub record Paired (d : code.Doing) (op : Operation) (env : Env) : Type 0 where
+pub record Paired (d : Doing) (op : Operation) (env : Env) : Type 0 where
   pub xs : List values.Value
   pub are : Some xs ≡ lookups (out-Operation op).operands env
   pub alone : has_regions (form_of (out-Operation op).form) ≡ false
-  pub does : Does d (does (form_of (out-Operation op).form) (out-Operation op).successors xs)
+  pub does : d ≡ does (form_of (out-Operation op).form) (out-Operation op).successors xs
 
 -- What a place and a memory of the code have come to, against a step of the definition. Where the run stops, nothing more is said of
 -- them, and where the function returns nothing of the place.

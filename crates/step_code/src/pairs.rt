@@ -1,21 +1,21 @@
-//! Operations of two integers, of whose operands no list is made.
+//! Operations of two integers, and branches that hand over no values: of their operands no list is made.
 
-ghost use Rattle.std.specs.Prelude.{◌≡◌, ℕ, ⊤, List, [], ◌∷◌, Some, MatchOption};
+ghost use Rattle.std.specs.Prelude.{◌≡◌, ℕ, ⊤, true, List, [], ◌∷◌, Some, MatchOption, if◌then◌else◌};
 ghost use Rattle.std.specs.Option.{option_copied, option_map};
+ghost use Rattle.number_model.specs.Answers.{with_answer};
 ghost use Rattle.operation_model.specs.Doings as doings;
+ghost use Rattle.operation_model.specs.Forms as forms;
 ghost use Rattle.operation_model.specs.Pures as pures;
 ghost use Rattle.form_model.specs.Codes.{Env, lookups};
-ghost use Rattle.value_code.specs.Models.{integer_of, value_of};
-ghost use Rattle.run_code.specs.Views.{pure_of};
+ghost use Rattle.value_code.specs.Models.{integer_of, looked_of, value_of};
+ghost use Rattle.run_code.specs.Views.{form_of, pure_of};
 ghost use Rattle.table_code.specs.Agreement.{Agrees, value_at};
-ghost use Rattle.doing_code.specs.Doings.{Does};
 ghost use Rattle.step_code.specs.Turns.{Paired};
 
-use doing_code::Doing;
 use run_code::{Form, Operation, Pure};
 use sqlite_items::at;
 use table_code::Table;
-use value_code::{Looked, Value, compared, two_numbers};
+use value_code::{Looked, Value, compared, truth, two_numbers};
 
 /// Two operands where they stand.
 #[derive(Clone, Copy)]
@@ -61,30 +61,73 @@ fn given_by(p: &Pure, t: Two<'_>) -> Option<Looked<u64>>
     }
 }
 
-/// An integer as the one result.
-#[tactic(auto, using(value_code::proofs::Shapes::shapes))]
-fn gives(l: Looked<u64>) -> Doing<'static>
-    ensures { Does result (doings.on (integer_of l) doings.Ends) }
-{
-    match l {
-        Looked::Gives(n) => Doing::Gives(Value::Integer(n)),
-        Looked::Undefined => Doing::Undefined,
-        Looked::Outside => Doing::Outside,
-    }
-}
-
-/// What an operation of two integers does. None for another one.
-pub fn pair_doing(table: &Table, op: &Operation) -> Option<Doing<'static>>
-    ensures { MatchOption result ⊤ (λ d. (env : Env) → Agrees table.now env → Paired d op.now env) }
+/// What an operation of two integers gives. None for another one.
+pub fn pair_gives(table: &Table, op: &Operation) -> Option<Looked<u64>>
+    ensures { MatchOption result ⊤ (λ l. (env : Env) → Agrees table.now env → Paired (doings.on (integer_of l) doings.Ends) op.now env) }
 {
     match &op.form {
         Form::Computes(p) => match two_values(table, op.operands.as_slice()) {
-            Some(t) => match given_by(p, t) {
-                Some(l) => Some(gives(l)),
-                None => None,
-            },
+            Some(t) => given_by(p, t),
             None => None,
         },
         _ => None,
+    }
+}
+
+/// The value of the one number. None where it isn't one or has none.
+fn one_value<'a>(table: &'a Table, ids: &[u32]) -> Option<&'a Value>
+    ensures { MatchOption result ⊤ (λ r. (env : Env) → Agrees table.now env → Some (value_of r.now ∷ []) ≡ lookups ids.now env) }
+{
+    match ids {
+        [n] => value_in(table, *n),
+        _ => None,
+    }
+}
+
+/// The two labels. None where they aren't two.
+fn two_labels(labels: &[u32]) -> Option<(u32, u32)>
+    ensures { MatchOption result ⊤ (λ two. labels.now ≡ two.0 ∷ two.1 ∷ []) }
+{
+    match labels {
+        [first, second] => Some((*first, *second)),
+        _ => None,
+    }
+}
+
+/// The first or the second label, by a condition.
+fn chosen(c: &Value, two: (u32, u32)) -> Looked<u32>
+    ensures { looked_of result ≡ with_answer (λ holds. if holds then two.0 else two.1) (pures.truth (value_of c.now)) }
+{
+    match truth(c) {
+        Looked::Gives(holds) => Looked::Gives(if holds { two.0 } else { two.1 }),
+        Looked::Undefined => Looked::Undefined,
+        Looked::Outside => Looked::Outside,
+    }
+}
+
+/// Whether it is a branch by a condition that hands over no values.
+fn is_bare(form: &Form) -> bool
+    ensures { result ≡ true → form_of form.now ≡ forms.BranchOn 0 0 }
+{
+    match form {
+        Form::BranchOn(a, b) => *a == 0 && *b == 0,
+        _ => false,
+    }
+}
+
+/// The label to which a branch by a condition goes that hands over no values. None for another operation.
+pub fn branch_to(table: &Table, op: &Operation) -> Option<Looked<u32>>
+    ensures { MatchOption result ⊤ (λ l. (env : Env) → Agrees table.now env → Paired (doings.on (looked_of l) (λ n. doings.Jumps n [])) op.now env) }
+{
+    if is_bare(&op.form) {
+        match two_labels(op.successors.as_slice()) {
+            Some(two) => match one_value(table, op.operands.as_slice()) {
+                Some(c) => Some(chosen(c, two)),
+                None => None,
+            },
+            None => None,
+        }
+    } else {
+        None
     }
 }

@@ -71,6 +71,22 @@ fn jump<'a>(
     }
 }
 
+/// To the block of a label, with no arguments.
+pub fn jump_bare<'a>(
+    alloc: Global,
+    place: &mut Place<'a>,
+    label: u32,
+    blocks: &'a [Block],
+) -> Result<Moving, AllocError>
+    ensures { IfOk result (λ m. (env : Env) → Agrees place.old.table env → Moved m place.new
+        (jumps_to label [] (blocks_of blocks.now) env (frames_of place.old))) }
+{
+    match find_block(blocks, label) {
+        Some(block) => Ok(jump_into(alloc, place, block, blocks, &[])?),
+        None => Ok(Moving::Outside),
+    }
+}
+
 /// A call, with what waits behind it.
 fn calls<'a>(
     place: &mut Place<'a>,

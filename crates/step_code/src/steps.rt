@@ -1,25 +1,26 @@
 //! One step from a place.
 
 ghost use Rattle.std.specs.Prelude.{◌≡◌, ℕ, ◌∷◌, [], IfOk, MatchOption};
+ghost use Rattle.operation_model.specs.Doings as doings;
 ghost use Rattle.form_model.specs.Codes.{Env};
 ghost use Rattle.machine_model.specs.Machine as model;
-ghost use Rattle.value_code.specs.Models.{values_of};
+ghost use Rattle.value_code.specs.Models.{integer_of, looked_of, values_of};
 ghost use Rattle.run_code.specs.Views.{form_of, regions_of};
 ghost use Rattle.run_code.specs.declared.function.Operation.{out-Operation};
 ghost use Rattle.table_code.specs.Agreement.{Agrees};
 ghost use Rattle.frame_code.specs.Frames.{behind_of, frames_of, place_of};
 ghost use Rattle.step_code.specs.Turns.{Paired, Stepped};
 
-use crate::pairs::pair_doing;
-use crate::perform::perform;
+use crate::pairs::{branch_to, pair_gives};
+use crate::perform::{jump_bare, perform};
 use crate::turns::{Stop, Turn, turned};
-use doing_code::{Doing, doing_of};
-use frame_code::{Behind, Place, moved};
+use doing_code::doing_of;
+use frame_code::{Behind, Place, go_one, moved};
 use memory_code::Memory;
 use run_code::Operation;
 use std::alloc::{AllocError, Global};
 use table_code::operands;
-use value_code::ValueList;
+use value_code::{Looked, Value, ValueList};
 
 /// An operation and those behind it.
 #[derive(Clone, Copy)]
@@ -60,23 +61,49 @@ fn act<'a, M: Memory>(
     }
 }
 
-/// What an operation comes to that does this, with no operands at hand.
-fn step_with<'a, M: Memory>(
-    alloc: Global,
+/// What an operation of two integers comes to, by what it gives.
+fn step_pair<'a, M: Memory>(
     place: &mut Place<'a>,
-    memory: &mut M,
+    memory: &M,
     ahead: Ahead<'a>,
-    doing: Doing<'a>,
+    l: Looked<u64>,
 ) -> Result<Turn<'a>, AllocError>
-    ensures { IfOk result (λ t. (s : M.State) → M.Stands memory.old s → (env : Env) → Agrees place.old.table env → place.old.ops.now ≡ ahead.entry.op.now ∷ ahead.entry.rest.now → Paired doing.entry ahead.entry.op.now env → Stepped M.Stands t place.new memory.new
+    ensures { IfOk result (λ t. (s : M.State) → M.Stands memory.now s → (env : Env) → Agrees place.old.table env → place.old.ops.now ≡ ahead.entry.op.now ∷ ahead.entry.rest.now → Paired (doings.on (integer_of l) doings.Ends) ahead.entry.op.now env → Stepped M.Stands t place.new memory.now
         (model.step M.ask (place_of place.old env) s)) }
 {
-    let behind = Behind {
-        results: ahead.op.results.as_slice(),
-        rest: ahead.rest,
-        blocks: place.blocks,
-    };
-    Ok(perform(alloc, place, memory, behind, doing)?)
+    let results = ahead.op.results.as_slice();
+    let blocks = place.blocks;
+    match l {
+        Looked::Gives(n) => Ok(turned(go_one(
+            place,
+            results,
+            Value::Integer(n),
+            ahead.rest,
+            blocks,
+        )?)),
+        Looked::Undefined => Ok(Turn::Stops(Stop::Undefined)),
+        Looked::Outside => Ok(Turn::Stops(Stop::Outside)),
+    }
+}
+
+/// What a branch comes to that hands over no values, by the label.
+fn step_branch<'a, M: Memory>(
+    alloc: Global,
+    place: &mut Place<'a>,
+    memory: &M,
+    ahead: Ahead<'a>,
+    l: Looked<u32>,
+) -> Result<Turn<'a>, AllocError>
+    ensures { IfOk result (λ t. (s : M.State) → M.Stands memory.now s → (env : Env) → Agrees place.old.table env → place.old.ops.now ≡ ahead.entry.op.now ∷ ahead.entry.rest.now → Paired (doings.on (looked_of l) (λ n. doings.Jumps n [])) ahead.entry.op.now env → Stepped M.Stands t place.new memory.now
+        (model.step M.ask (place_of place.old env) s)) }
+{
+    let results = ahead.op.results.as_slice();
+    let blocks = place.blocks;
+    match l {
+        Looked::Gives(label) => Ok(turned(jump_bare(alloc, place, label, blocks)?)),
+        Looked::Undefined => Ok(Turn::Stops(Stop::Undefined)),
+        Looked::Outside => Ok(Turn::Stops(Stop::Outside)),
+    }
 }
 
 /// What an operation comes to, with a list of its operands.
@@ -101,6 +128,22 @@ fn step_on<'a, M: Memory>(
     }
 }
 
+/// What an operation comes to that isn't one of two integers.
+fn step_other<'a, M: Memory>(
+    alloc: Global,
+    place: &mut Place<'a>,
+    memory: &mut M,
+    ahead: Ahead<'a>,
+) -> Result<Turn<'a>, AllocError>
+    ensures { IfOk result (λ t. (s : M.State) → M.Stands memory.old s → (env : Env) → Agrees place.old.table env → place.old.ops.now ≡ ahead.entry.op.now ∷ ahead.entry.rest.now → Stepped M.Stands t place.new memory.new
+        (model.step M.ask (place_of place.old env) s)) }
+{
+    match branch_to(&place.table, ahead.op) {
+        Some(l) => Ok(step_branch(alloc, place, memory, ahead, l)?),
+        None => Ok(step_on(alloc, place, memory, ahead)?),
+    }
+}
+
 /// One step from a place.
 pub fn step<'a, M: Memory>(
     alloc: Global,
@@ -111,9 +154,9 @@ pub fn step<'a, M: Memory>(
         (model.step M.ask (place_of place.old env) s)) }
 {
     match next_of(place.ops) {
-        Some(ahead) => match pair_doing(&place.table, ahead.op) {
-            Some(doing) => Ok(step_with(alloc, place, memory, ahead, doing)?),
-            None => Ok(step_on(alloc, place, memory, ahead)?),
+        Some(ahead) => match pair_gives(&place.table, ahead.op) {
+            Some(l) => Ok(step_pair(place, memory, ahead, l)?),
+            None => Ok(step_other(alloc, place, memory, ahead)?),
         },
         None => Ok(Turn::Stops(Stop::Outside)),
     }
