@@ -1,2 +1,4 @@
 pub mod NumberLemmas
 pub mod TypeTerms
+pub mod SpellLemmas
+pub mod AttrTerms

@@ -1,6 +1,6 @@
 -- The terms of types, from the events that have their words.
-use Rattle.std.proofs.Common.{◌≡◌, ℕ, suc, ◌+◌, ◌<◌, ◌≤◌, ◌^◌, ◌==◌, ◌&&◌, ◌||◌, Bool, true, false, List, [], ◌∷◌, ◌++◌, length, Option, Some, None, refl, sym, ap, ◌∙◌, arith}
-use Rattle.std.specs.Prelude.{codes, decimal, nat_lt, nat_le, if◌then◌else◌}
+use Rattle.std.proofs.Common.{◌≡◌, ℕ, ◌<◌, ◌^◌, ◌&&◌, Bool, true, false, List, [], ◌∷◌, length, Option, Some, None, refl, ap, ◌∙◌, arith}
+use Rattle.std.specs.Prelude.{codes, nat_lt, nat_le, if◌then◌else◌}
 use Rattle.std.specs.List.{list_all}
 use Rattle.std.proofs.lemmas.Bool.{false≢true}
 use Rattle.mlir_lex.proofs.Lengths.{and-left, and-right}
@@ -9,8 +9,6 @@ use Rattle.tree_model.specs.declared.type_tree.Dim.TheVariants.{Fixed, Dynamic}
 use Rattle.plain_tree.specs.Types.{PlainType, PlainTypes, Int, Index, Memref, Func, Ptr, Void, Struct, Array, LlvmFunc, end_of_types, more_types}
 use Rattle.rule_model.specs.Forms.{is_number}
 use Rattle.rule_model.specs.Formed.{is_dim, is_formed_type, are_formed_types}
-use Rattle.text_grammar.specs.declared.kinds.Kind.{Kind}
-use Rattle.text_grammar.specs.declared.kinds.Kind.TheVariants as kinds
 use Rattle.text_grammar.specs.declared.places.Place.{Place}
 use Rattle.text_grammar.specs.declared.places.Place.TheVariants as places
 use Rattle.term_table.specs.declared.node.Form.TheVariants as forms
@@ -18,24 +16,24 @@ use Rattle.term_table.specs.Terms.{Term, nothing, node}
 use Rattle.text_events.specs.declared.event.Event.{Event}
 use Rattle.text_types.specs.declared.action.Action.TheVariants.{Keep, Wrap, Join}
 use Rattle.text_types.specs.Spelling.{Spelling}
-use Rattle.text_types.specs.Actions.{capped, integer_of, plain_of, size_of, opens_types, results_of}
+use Rattle.text_types.specs.Actions.{capped, integer_of, plain_of, size_of, opens_types, opens_items, results_of}
 use Rattle.text_types.specs.Items.{Aliases, items, acted, wrapped, joined, place_next}
 use Rattle.text_types.specs.Plain.{term_of, terms_of, sizes_before}
 use Rattle.event_trees.specs.Wording.{Wording}
-use Rattle.printed_words.specs.Words.{PrintedWord, word, sign}
+use Rattle.printed_words.specs.Words.{PrintedWord}
 use Rattle.printed_types.proofs.ApartLemmas.{upper, below}
 use Rattle.printed_types.specs.TypeWords.{type_words, types_words, more_words, results_words, dim_words, plain_word, struct_word, array_word, function_word, is_function}
-use Rattle.printed_terms.specs.Told.{Told, Says, no_words, one_more}
-use Rattle.printed_terms.specs.Laws.{Behind}
+use Rattle.printed_terms.specs.Told.{Told, Says, one_more}
 use Rattle.printed_terms.proofs.NumberLemmas.{decimal_number, decimal_size, width_is}
 
 -- what stands first among events where a type begins: no closing sign, and no parenthesis of results
 pub record Begins (es : List Event) : Type 0 where
   pub opens : opens_types (place_next es) ≡ Join forms.Types 0
   pub alone : results_of (place_next es) ≡ Wrap forms.Types 0
+  pub listed : opens_items (place_next es) ≡ Join forms.Item 0
 
-begins_by : {es behind : List Event} {e : Event} → es ≡ e ∷ behind → opens_types (Some e.place) ≡ Join forms.Types 0 → results_of (Some e.place) ≡ Wrap forms.Types 0 → Begins es
-begins_by is o r = record { opens = ap (λ x. opens_types (place_next x)) is ∙ o; alone = ap (λ x. results_of (place_next x)) is ∙ r }
+begins_by : {es behind : List Event} {e : Event} → es ≡ e ∷ behind → opens_types (Some e.place) ≡ Join forms.Types 0 → results_of (Some e.place) ≡ Wrap forms.Types 0 → opens_items (Some e.place) ≡ Join forms.Item 0 → Begins es
+begins_by is o r l = record { opens = ap (λ x. opens_types (place_next x)) is ∙ o; alone = ap (λ x. results_of (place_next x)) is ∙ r; listed = ap (λ x. opens_items (place_next x)) is ∙ l }
 
 module _ (words : Spelling) (wording : Wording) (aliases : Aliases) where
   -- the first word of what was told
@@ -105,8 +103,8 @@ module _ (words : Spelling) (wording : Wording) (aliases : Aliases) where
 
   pub number_terms : (inside : Bool) (gap : List ℕ) (t : PlainType) (rest : List PrintedWord) (es : List Event) → is_number t ≡ true → is_formed_type t ≡ true → Told words wording (type_words inside places.ElementWord gap t rest) es → Took rest es (term_of t)
   number_terms inside gap (Int width) rest es n f (one_more w name says more) =
-      record { behind = _; told = more; terms = int_acted (words.width name) width (aliases name) _ (says ∙ width_is width (upper width f)); begins = record { opens = refl; alone = refl } }
-  number_terms inside gap Index rest es n f (one_more w name says more) = record { behind = _; told = more; terms = index_acted (words.width name) (aliases name) _ says; begins = record { opens = refl; alone = refl } }
+      record { behind = _; told = more; terms = int_acted (words.width name) width (aliases name) _ (says ∙ width_is width (upper width f)); begins = record { opens = refl; alone = refl; listed = refl } }
+  number_terms inside gap Index rest es n f (one_more w name says more) = record { behind = _; told = more; terms = index_acted (words.width name) (aliases name) _ says; begins = record { opens = refl; alone = refl; listed = refl } }
   number_terms inside gap _ rest es n f told = absurd (false≢true n)
 
   -- sizes
@@ -138,30 +136,30 @@ module _ (words : Spelling) (wording : Wording) (aliases : Aliases) where
   ptr_terms : (inside : Bool) (gap : List ℕ) (rest : List PrintedWord) (es : List Event) → Told words wording (plain_word inside gap (codes "ptr") ∷ rest) es → Took rest es (node forms.Ptr 0 nothing nothing)
   ptr_terms true gap rest es told =
       let k = first_said told in
-      record { behind = k.behind; told = k.told; terms = ap (items words aliases) k.is ∙ ap (λ b. acted (aliases k.name) (plain_of b) (items words aliases k.behind)) k.says; begins = begins_by k.is refl refl }
+      record { behind = k.behind; told = k.told; terms = ap (items words aliases) k.is ∙ ap (λ b. acted (aliases k.name) (plain_of b) (items words aliases k.behind)) k.says; begins = begins_by k.is refl refl refl }
   ptr_terms false gap rest es told =
       let k = first_said told in
-      record { behind = k.behind; told = k.told; terms = ap (items words aliases) k.is ∙ ap (λ b. acted (aliases k.name) (plain_of b) (items words aliases k.behind)) k.says; begins = begins_by k.is refl refl }
+      record { behind = k.behind; told = k.told; terms = ap (items words aliases) k.is ∙ ap (λ b. acted (aliases k.name) (plain_of b) (items words aliases k.behind)) k.says; begins = begins_by k.is refl refl refl }
 
   void_terms : (inside : Bool) (gap : List ℕ) (rest : List PrintedWord) (es : List Event) → Told words wording (plain_word inside gap (codes "void") ∷ rest) es → Took rest es (node forms.Void 0 nothing nothing)
   void_terms true gap rest es told =
       let k = first_said told in
-      record { behind = k.behind; told = k.told; terms = ap (items words aliases) k.is ∙ ap (λ b. acted (aliases k.name) (plain_of b) (items words aliases k.behind)) k.says; begins = begins_by k.is refl refl }
+      record { behind = k.behind; told = k.told; terms = ap (items words aliases) k.is ∙ ap (λ b. acted (aliases k.name) (plain_of b) (items words aliases k.behind)) k.says; begins = begins_by k.is refl refl refl }
   void_terms false gap rest es told =
       let k = first_said told in
-      record { behind = k.behind; told = k.told; terms = ap (items words aliases) k.is ∙ ap (λ b. acted (aliases k.name) (plain_of b) (items words aliases k.behind)) k.says; begins = begins_by k.is refl refl }
+      record { behind = k.behind; told = k.told; terms = ap (items words aliases) k.is ∙ ap (λ b. acted (aliases k.name) (plain_of b) (items words aliases k.behind)) k.says; begins = begins_by k.is refl refl refl }
 
   struct_head : (inside : Bool) (gap : List ℕ) (rest : List PrintedWord) (es : List Event) → Told words wording (struct_word inside gap ∷ rest) es → Headed (wrapped forms.Struct 0) rest es
-  struct_head true gap rest es (one_more w name says more) = record { behind = _; told = more; terms = refl; begins = record { opens = refl; alone = refl } }
-  struct_head false gap rest es (one_more w name says more) = record { behind = _; told = more; terms = refl; begins = record { opens = refl; alone = refl } }
+  struct_head true gap rest es (one_more w name says more) = record { behind = _; told = more; terms = refl; begins = record { opens = refl; alone = refl; listed = refl } }
+  struct_head false gap rest es (one_more w name says more) = record { behind = _; told = more; terms = refl; begins = record { opens = refl; alone = refl; listed = refl } }
 
   array_head : (inside : Bool) (gap : List ℕ) (rest : List PrintedWord) (es : List Event) → Told words wording (array_word inside gap ∷ rest) es → Headed (λ ts. ts) rest es
-  array_head true gap rest es (one_more w name says more) = record { behind = _; told = more; terms = refl; begins = record { opens = refl; alone = refl } }
-  array_head false gap rest es (one_more w name says more) = record { behind = _; told = more; terms = refl; begins = record { opens = refl; alone = refl } }
+  array_head true gap rest es (one_more w name says more) = record { behind = _; told = more; terms = refl; begins = record { opens = refl; alone = refl; listed = refl } }
+  array_head false gap rest es (one_more w name says more) = record { behind = _; told = more; terms = refl; begins = record { opens = refl; alone = refl; listed = refl } }
 
   function_head : (inside : Bool) (gap : List ℕ) (rest : List PrintedWord) (es : List Event) → Told words wording (function_word inside gap ∷ rest) es → Headed (joined forms.LlvmFunc 0) rest es
-  function_head true gap rest es (one_more w name says more) = record { behind = _; told = more; terms = refl; begins = record { opens = refl; alone = refl } }
-  function_head false gap rest es (one_more w name says more) = record { behind = _; told = more; terms = refl; begins = record { opens = refl; alone = refl } }
+  function_head true gap rest es (one_more w name says more) = record { behind = _; told = more; terms = refl; begins = record { opens = refl; alone = refl; listed = refl } }
+  function_head false gap rest es (one_more w name says more) = record { behind = _; told = more; terms = refl; begins = record { opens = refl; alone = refl; listed = refl } }
 
   array_acted : (number n : ℕ) (alias t u : Term) (more : List Term) → n < 2 ^ 63 → number ≡ n → acted alias (Join forms.Array (capped number)) (t ∷ u ∷ more) ≡ node forms.Array n t u ∷ more
   array_acted number n alias t u more few e = ap (λ k. node forms.Array (capped k) t u ∷ more) e ∙ ap (λ k. node forms.Array k t u ∷ more) (capped_is n few)
@@ -182,8 +180,8 @@ module _ (words : Spelling) (wording : Wording) (aliases : Aliases) where
   mutual
     pub type_terms : (inside : Bool) (gap : List ℕ) (t : PlainType) (rest : List PrintedWord) (es : List Event) → is_formed_type t ≡ true → Told words wording (type_words inside places.IntegerWord gap t rest) es → Took rest es (term_of t)
     type_terms inside gap (Int width) rest es f (one_more w name says more) =
-        record { behind = _; told = more; terms = int_acted (words.width name) width (aliases name) _ (says ∙ width_is width (upper width f)); begins = record { opens = refl; alone = refl } }
-    type_terms inside gap Index rest es f (one_more w name says more) = record { behind = _; told = more; terms = index_acted (words.width name) (aliases name) _ says; begins = record { opens = refl; alone = refl } }
+        record { behind = _; told = more; terms = int_acted (words.width name) width (aliases name) _ (says ∙ width_is width (upper width f)); begins = record { opens = refl; alone = refl; listed = refl } }
+    type_terms inside gap Index rest es f (one_more w name says more) = record { behind = _; told = more; terms = index_acted (words.width name) (aliases name) _ says; begins = record { opens = refl; alone = refl; listed = refl } }
     type_terms inside gap (Memref dims element) rest es f (one_more w name says (one_more v other said more)) =
         let inner : (is_number element && is_formed_type element) ≡ true = and-right (list_all is_dim dims) _ (and-right (nat_le (length dims) 8) _ f) in
         let d = dims_terms dims _ _ (and-left (list_all is_dim dims) _ (and-right (nat_le (length dims) 8) _ f)) more in
@@ -193,7 +191,7 @@ module _ (words : Spelling) (wording : Wording) (aliases : Aliases) where
           behind = c.behind;
           told = c.told;
           terms = ap (λ ts. acted (aliases name) (Join forms.Memref 0) ts) (d.terms (term_of element) (nothing ∷ items words aliases c.behind) (e.terms ∙ ap (λ ts. term_of element ∷ ts) (ap (items words aliases) c.is)));
-          begins = record { opens = refl; alone = refl };
+          begins = record { opens = refl; alone = refl; listed = refl };
         }
     type_terms inside gap (Func inputs results) rest es f (one_more w name says more) =
         let ins = types_terms inside inputs _ _ (and-left _ _ f) more in
@@ -201,12 +199,12 @@ module _ (words : Spelling) (wording : Wording) (aliases : Aliases) where
         let a = first c.told in
         let outs = results_terms inside results rest a.behind (and-right (are_formed_types inputs) _ f) a.told in
         let list : items words aliases ins.behind ≡ nothing ∷ terms_of results ∷ items words aliases outs.behind =
-            ap (items words aliases) c.is ∙ ap (λ ts. nothing ∷ ts) (ap (items words aliases) a.is ∙ outs.terms (aliases a.name)) in
+        ap (items words aliases) c.is ∙ ap (λ ts. nothing ∷ ts) (ap (items words aliases) a.is ∙ outs.terms (aliases a.name)) in
         record {
           behind = outs.behind;
           told = outs.told;
           terms = ap (λ ts. acted (aliases name) (Join forms.Func 0) ts) (ins.terms (aliases name) (terms_of results ∷ items words aliases outs.behind) (next_is places.FunctionClose ins.behind c.behind c.name c.is refl) list);
-          begins = record { opens = refl; alone = refl };
+          begins = record { opens = refl; alone = refl; listed = refl };
         }
     type_terms inside gap Ptr rest es f told = ptr_terms inside gap rest es told
     type_terms inside gap Void rest es f told = void_terms inside gap rest es told
@@ -282,16 +280,16 @@ module _ (words : Spelling) (wording : Wording) (aliases : Aliases) where
     results_terms inside (more_types t end_of_types) rest es f told =
         either (is_function t) _ _ es
         (λ _ told. let o = first told in
-            let k = type_terms inside [] t _ o.behind (and-left _ _ f) o.told in
-            let c = first k.told in
-            record {
-              behind = c.behind;
-              told = c.told;
-              terms = λ alias. ap (λ x. acted alias (results_of (place_next x)) (items words aliases x)) o.is ∙ ap (λ a. acted (aliases o.name) a (items words aliases o.behind)) k.begins.opens
-                  ∙ ap (λ x. acted (aliases o.name) (Join forms.Types 0) x) (k.terms ∙ ap (λ x. term_of t ∷ items words aliases x) c.is);
-            })
+        let k = type_terms inside [] t _ o.behind (and-left _ _ f) o.told in
+        let c = first k.told in
+        record {
+          behind = c.behind;
+          told = c.told;
+          terms = λ alias. ap (λ x. acted alias (results_of (place_next x)) (items words aliases x)) o.is ∙ ap (λ a. acted (aliases o.name) a (items words aliases o.behind)) k.begins.opens
+              ∙ ap (λ x. acted (aliases o.name) (Join forms.Types 0) x) (k.terms ∙ ap (λ x. term_of t ∷ items words aliases x) c.is);
+        })
         (λ _ told. let k = type_terms inside (codes " ") t rest es (and-left _ _ f) told in
-            record { behind = k.behind; told = k.told; terms = λ alias. ap (λ a. acted alias a (items words aliases es)) k.begins.alone ∙ ap (λ x. acted alias (Wrap forms.Types 0) x) k.terms })
+        record { behind = k.behind; told = k.told; terms = λ alias. ap (λ a. acted alias a (items words aliases es)) k.begins.alone ∙ ap (λ x. acted alias (Wrap forms.Types 0) x) k.terms })
         told
     results_terms inside (more_types t (more_types u us)) rest es f told =
         let o = first told in
