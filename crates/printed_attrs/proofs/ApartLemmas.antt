@@ -56,10 +56,10 @@ small_number (Int w) v f h = small_signed w v (upper w f) h
 small_number Index v f h = small_signed 64 v (omega arith) h
 small_number _ v f h = absurd (false≢true h)
 
-byte_width : (w : ℕ) → is_byte_width w ≡ true → w ≤ 64
+pub byte_width : (w : ℕ) → is_byte_width w ≡ true → w ≤ 64
 byte_width w h = grind (arith, nat_tests)
 
-byte_some : (w : ℕ) → is_byte_width w ≡ true → 0 < w
+pub byte_some : (w : ℕ) → is_byte_width w ≡ true → 0 < w
 byte_some w h = grind (arith, nat_tests)
 
 -- digits don't begin with a `>`
