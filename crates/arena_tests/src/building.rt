@@ -117,7 +117,7 @@ fn put_tree(alloc: Global, i: &mut PlainInterner, rw: &mut Rewriter, tree: &Func
     }
 }
 
-/// A copy takes the place of the function, another function that of the copy, and all is taken back.
+/// A copy takes the place of the function, another function that of the copy, and all is taken back, to the empty journal.
 fn replaced_and_back(
     alloc: Global,
     i: &mut PlainInterner,
@@ -125,12 +125,11 @@ fn replaced_and_back(
     tree: &FuncTree,
     other: &FuncTree,
 ) -> bool {
-    let start = rw.checkpoint();
     put_copy(alloc, rw)
         && shows(alloc, i, rw.func(), tree)
         && put_tree(alloc, i, rw, other)
         && shows(alloc, i, rw.func(), other)
-        && rw.rollback(start) == 2
+        && rw.rollback(0) == 2
         && shows(alloc, i, rw.func(), tree)
 }
 
