@@ -1,6 +1,6 @@
 -- Operands replaced one by one are all replaced in the end.
-use Rattle.std.proofs.Common.{◌≡◌, ℕ, zero, suc, ◌<◌, ◌≤◌, List, [], ◌∷◌, length, get_or, set, map, refl, sym, ap, ◌∙◌, arith}
-use Rattle.std.proofs.lemmas.List.{set-set, set-get_or, get_or-set_same}
+use Rattle.std.proofs.Common.{◌≡◌, ℕ, zero, suc, ◌<◌, ◌≤◌, ◌+◌, true, false, List, [], ◌∷◌, length, get_or, set, map, cond, ◌==◌, refl, sym, ap, ◌∙◌, arith}
+use Rattle.std.proofs.lemmas.List.{set-set, set-get_or, get_or-set_same, length-set}
 use Rattle.flat_model.specs.declared.nodes.OpNode.{OpNode}
 use Rattle.flat_model.specs.Flat.{Flat, no_op, op_at, IsClosed}
 use Rattle.edit_model.specs.Writes.{with_operand, with_node}
@@ -81,3 +81,41 @@ use_next from to f g n h e = let s = node_replaced from to in e
 
 pub uses_done : (from to : ℕ) (f : Flat) (n : ℕ) → length f.ops ≤ n → uses_so_far from to f n ≡ with_uses from to f
 uses_done from to f n h = ap (λ os. record f { ops = os }) (all_changed (node_replaced from to) n f.ops h)
+
+-- how many operations, values and operands there are, while operands are replaced
+pub ops_so_far : (from to : ℕ) (f g : Flat) (n : ℕ) → g ≡ uses_so_far from to f n → (length g.ops ≡ length f.ops) × (length g.types ≡ length f.types)
+ops_so_far from to f g n e = (ap (λ (x : Flat). length x.ops) e ∙ changed_length (node_replaced from to) n f.ops, ap (λ (x : Flat). length x.types) e)
+
+pub inside_so_far : (from to : ℕ) (f g : Flat) (op n : ℕ) → op < length f.ops → g ≡ operands_so_far from to f op n
+    → (length g.ops ≡ length f.ops) × (length g.types ≡ length f.types) × (length (op_at g op).operands ≡ length (op_at f op).operands)
+inside_so_far from to f g op n h e = let xs = (op_at f op).operands in let m : OpNode = record (op_at f op) { operands = front_changed (replaced from to) n xs } in (
+  ap (λ (x : Flat). length x.ops) e ∙ length-set f.ops op m,
+  ap (λ (x : Flat). length x.types) e,
+  ap (λ (x : Flat). length (op_at x op).operands) e ∙ ap (λ (k : OpNode). length k.operands) (get_or-set_same f.ops op m no_op h) ∙ changed_length (replaced from to) n xs,
+)
+
+-- one operand more
+pub operand_turn : (from to : ℕ) (f g h : Flat) (op n : ℕ) → op < length f.ops → n < length (op_at f op).operands → g ≡ operands_so_far from to f op n
+    → h ≡ with_operand g op n (replaced from to (get_or (op_at g op).operands n 0)) → h ≡ operands_so_far from to f op (n + 1)
+operand_turn from to f g h op n l k e d = let xs = (op_at f op).operands in let r = replaced from to in let m : OpNode = record (op_at f op) { operands = front_changed r n xs } in
+    let s = operands_so_far from to f op n in let j : suc n ≡ n + 1 = omega arith in
+    operand_next from to f h op n l k (d ∙ ap (λ (x : Flat). with_operand x op n (r (get_or (op_at x op).operands n 0))) e
+    ∙ ap (λ y. with_operand s op n (r y)) (ap (λ (x : OpNode). get_or x.operands n 0) (get_or-set_same f.ops op m no_op l) ∙ next_same r n xs 0 k))
+    ∙ ap (operands_so_far from to f op) j
+
+-- one operation more
+pub use_turn : (from to : ℕ) (f g h : Flat) (n : ℕ) → n < length f.ops → g ≡ uses_so_far from to f n → h ≡ with_node g n (node_replaced from to (op_at g n)) → h ≡ uses_so_far from to f (n + 1)
+use_turn from to f g h n l e d = let j : suc n ≡ n + 1 = omega arith in
+    use_next from to f h n l (d ∙ ap (λ (x : Flat). with_node x n (node_replaced from to (op_at x n))) e) ∙ ap (uses_so_far from to f) j
+
+-- an operand that is the value, and one that is not
+pub operand_taken : (from to : ℕ) (f g : Flat) (op at : ℕ) → g ≡ with_operand f op at to → (get_or (op_at f op).operands at 0 == from) ≡ true
+    → g ≡ with_operand f op at (replaced from to (get_or (op_at f op).operands at 0))
+operand_taken from to f g op at e t = e ∙ ap (λ b. with_operand f op at (cond b to (get_or (op_at f op).operands at 0))) (sym t)
+
+pub operand_left : (from to : ℕ) (f g : Flat) (op at : ℕ) → g ≡ f → (get_or (op_at f op).operands at 0 == from) ≡ false
+    → g ≡ with_operand f op at (replaced from to (get_or (op_at f op).operands at 0))
+operand_left from to f g op at e t = let x = get_or (op_at f op).operands at 0 in
+    e ∙ sym (ap (λ (n : OpNode). record f { ops = set f.ops op n }) (ap (λ ys. let n : OpNode = record (op_at f op) { operands = ys } in n) (set-get_or (op_at f op).operands at 0))
+    ∙ ap (λ os. record f { ops = os }) (set-get_or f.ops op no_op))
+    ∙ ap (λ b. with_operand f op at (cond b to x)) (sym t)

@@ -2,3 +2,4 @@ pub mod JournalLaws
 pub mod StepLaws
 pub mod WriterLaws
 pub mod LastLaws
+pub mod NewOpLaws
