@@ -1,4 +1,0 @@
-pub mod Heads
-pub mod Targets
-pub mod Runs
-pub mod SiteFacts

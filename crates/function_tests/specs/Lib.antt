@@ -1,3 +1,0 @@
-pub mod Heads
-pub mod Walks
-pub mod Firsts

@@ -1,4 +1,0 @@
-pub mod Trees
-pub mod Seen
-pub mod Forms
-pub mod Table
