@@ -18,7 +18,8 @@ use Rattle.pattern_model.specs.ModuleStep.{module_step}
 use Rattle.pattern_model.specs.Fold.{anchor_name, Failure, functions_run, is_empty, passes_run, Ran, ran_on, stage_run, stages_run, Stood, whole_of, width}
 use Rattle.sound_model.specs.Agreement.{AgreesS}
 use Rattle.sound_model.proofs.Agreeing.{agreements_join, agrees_with_itself}
-use Rattle.kept_rules.specs.Promises.{FreshFunctions, FreshPasses, FreshStage, FreshStages, IsKept, IsWidth, KeptStage, PassKeepsVerified, Replaced, none_replaced, left_so, made_so, with_funcs}
+use Rattle.fold_model.specs.FreshFolds.{FreshFunctions, FreshPasses, FreshStage, FreshStages}
+use Rattle.kept_rules.specs.Promises.{IsKept, IsWidth, KeptStage, PassKeepsVerified, Replaced, none_replaced, left_so, made_so, with_funcs}
 use Rattle.kept_rules.proofs.BranchPass.{cf_verified}
 use Rattle.kept_rules.proofs.Reconciles.{casts_verified}
 use Rattle.kept_rules.proofs.StraightLaws.{arith_verified, expand_verified}
@@ -99,23 +100,23 @@ passes_keep m new bits function position (u ∷ us) before after f w all fresh v
 abbrev ran_by : Bool → Ran → Ran → Ran
 ran_by b x y = if b then x else y
 
-if_keeps : (m : PlainModule) (bits : ℕ) (before after : List Op) (b : Bool) (f : Op) (r : Ran) → Verified (with_funcs m (before ++ f ∷ after)) → Better bits (with_funcs m (before ++ f ∷ after)) (with_funcs m (before ++ r.func ∷ after))
+if_keeps : (m : PlainModule) (bits : ℕ) (before after : List Op) (b : Bool) (f : Op) (r : Ran) → Verified (with_funcs m (before ++ f ∷ after)) → (b ≡ true → Better bits (with_funcs m (before ++ f ∷ after)) (with_funcs m (before ++ r.func ∷ after)))
     → Better bits (with_funcs m (before ++ f ∷ after)) (with_funcs m (before ++ (ran_by b r (record { func = f; failed = None })).func ∷ after))
-if_keeps m bits before after true f r v a = a
+if_keeps m bits before after true f r v a = a refl
 if_keeps m bits before after false f r v a = itself bits (with_funcs m (before ++ f ∷ after)) v
 
 at_the_seam : (before : List Op) (f : Op) (after : List Op) → (before ++ f ∷ []) ++ after ≡ before ++ f ∷ after
 at_the_seam [] f after = refl
 at_the_seam (b ∷ bs) f after = ap (λ fs. b ∷ fs) (at_the_seam bs f after)
 
-functions_keep : (m : PlainModule) (new : ℕ → ℕ → Supply) (bits : ℕ) (runs : Op → Bool) (us : List PassUse) (k : ℕ) (before fs : List Op) → IsWidth bits → AllOf (λ (u : PassUse). IsKept u.pass) us → FreshFunctions new bits us k fs
+functions_keep : (m : PlainModule) (new : ℕ → ℕ → Supply) (bits : ℕ) (runs : Op → Bool) (us : List PassUse) (k : ℕ) (before fs : List Op) → IsWidth bits → AllOf (λ (u : PassUse). IsKept u.pass) us → FreshFunctions new bits runs us k fs
     → Verified (with_funcs m (before ++ fs)) → Better bits (with_funcs m (before ++ fs)) (with_funcs m (before ++ (functions_run new bits runs us k fs).funcs))
 functions_keep m new bits runs us k before [] w all fresh v = itself bits (with_funcs m (before ++ [])) v
 functions_keep m new bits runs us k before (f ∷ fs) w all fresh v =
     let g : Op = (ran_by (runs f) (passes_run (new k) bits k 0 us f) (record { func = f; failed = None })).func in
     let after : List Op = (functions_run new bits runs us (k + 1) fs).funcs in
     let first : Better bits (with_funcs m (before ++ f ∷ fs)) (with_funcs m (before ++ g ∷ fs)) =
-    if_keeps m bits before fs (runs f) f (passes_run (new k) bits k 0 us f) v (passes_keep m (new k) bits k 0 us before fs f w all fresh.0 v) in
+    if_keeps m bits before fs (runs f) f (passes_run (new k) bits k 0 us f) v (λ is. passes_keep m (new k) bits k 0 us before fs f w all (fresh.0 is) v) in
     let there : Verified (with_funcs m ((before ++ g ∷ []) ++ fs)) = subst (λ xs. Verified (with_funcs m xs)) (sym (at_the_seam before g fs)) first.verified in
     let rest : Better bits (with_funcs m ((before ++ g ∷ []) ++ fs)) (with_funcs m ((before ++ g ∷ []) ++ after)) = functions_keep m new bits runs us (k + 1) (before ++ g ∷ []) fs w all fresh.1 there in
     let from : Better bits (with_funcs m (before ++ g ∷ fs)) (with_funcs m ((before ++ g ∷ []) ++ after)) =
@@ -158,12 +159,12 @@ stages_keep m new bits n [] funcs w all fresh v = itself bits (with_funcs m func
 stages_keep m new bits n (s ∷ ss) funcs w all fresh v =
     let first : Better bits (with_funcs m funcs) (with_funcs m (stage_run (new n) bits s funcs).funcs) = stage_keeps m (new n) bits s funcs w all.0 fresh.0 v in
     go (stage_run (new n) bits s funcs) (is_empty (stage_run (new n) bits s funcs).failures) first
-    (joined bits (with_funcs m funcs) (with_funcs m (stage_run (new n) bits s funcs).funcs) (with_funcs m (stages_run new bits (n + 1) ss (stage_run (new n) bits s funcs).funcs).funcs) first
-    (stages_keep m new bits (n + 1) ss (stage_run (new n) bits s funcs).funcs w all.1 fresh.1 first.verified))
+    (λ good. joined bits (with_funcs m funcs) (with_funcs m (stage_run (new n) bits s funcs).funcs) (with_funcs m (stages_run new bits (n + 1) ss (stage_run (new n) bits s funcs).funcs).funcs) first
+    (stages_keep m new bits (n + 1) ss (stage_run (new n) bits s funcs).funcs w all.1 (fresh.1 good) first.verified))
   where
-    go : (x : Stood) (b : Bool) → Better bits (with_funcs m funcs) (with_funcs m x.funcs) → Better bits (with_funcs m funcs) (with_funcs m (stages_run new bits (n + 1) ss x.funcs).funcs)
+    go : (x : Stood) (b : Bool) → Better bits (with_funcs m funcs) (with_funcs m x.funcs) → (b ≡ true → Better bits (with_funcs m funcs) (with_funcs m (stages_run new bits (n + 1) ss x.funcs).funcs))
         → Better bits (with_funcs m funcs) (with_funcs m (stood_by b (stages_run new bits (n + 1) ss x.funcs) x).funcs)
-    go x true a c = c
+    go x true a c = c refl
     go x false a c = a
 
 pub fold_keeps : FoldKeepsMeaning

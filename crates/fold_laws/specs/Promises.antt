@@ -7,7 +7,8 @@ use Rattle.rule_model.specs.Rules.{Verified}
 use Rattle.conversion_model.specs.Conversion.{Supply}
 use Rattle.pattern_model.specs.Fold.{folded, width}
 use Rattle.sound_model.specs.Agreement.{AgreesS}
-use Rattle.kept_rules.specs.Promises.{FreshStages, IsWidth, KeptStage}
+use Rattle.fold_model.specs.FreshFolds.{FreshStages}
+use Rattle.kept_rules.specs.Promises.{IsWidth, KeptStage}
 
 -- A verified module and the one that the fold of a pipeline of these passes makes of it agree at the pipeline's width, also where
 -- the fold fails. The new numbers of each pass on a function are fresh for the function that it is run on.

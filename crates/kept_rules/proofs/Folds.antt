@@ -20,7 +20,8 @@ use Rattle.pattern_model.specs.PassTable.{pass_tree}
 use Rattle.pattern_model.specs.ModuleStep.{module_step}
 use Rattle.pattern_model.specs.Fold.{anchor_name, Failure, functions_run, is_empty, passes_run, Ran, ran_on, stage_run, stages_run, Stood, whole_of, width}
 use Rattle.fitting_rows.specs.Widths.{IsWidth}
-use Rattle.kept_rules.specs.Promises.{FoldKeepsVerified, FreshFunctions, FreshPasses, FreshStage, FreshStages, IsKept, KeptStage, with_funcs}
+use Rattle.fold_model.specs.FreshFolds.{FreshFunctions, FreshPasses, FreshStage, FreshStages}
+use Rattle.kept_rules.specs.Promises.{FoldKeepsVerified, IsKept, KeptStage, with_funcs}
 use Rattle.kept_rules.proofs.BranchPass.{cf_kept}
 use Rattle.line_rules.proofs.KeptSites.{Parts, parts_of, sound_by}
 use Rattle.kept_rules.proofs.Modules.{FunctionKept, Kept, one_more, same_functions}
@@ -118,14 +119,14 @@ passes_follow new bits function position (u ∷ us) f w all fresh = go (pass_tre
         then_kept c f g (passes_run new bits function (position + 1) us g).func k (rest g e c k.formed k.parts)
     go (Err x) e rest = itself f
 
-if_follows : (b : Bool) (f : Op) (r : Ran) → Follows f r.func → Follows f (ran_by b r (record { func = f; failed = None })).func
-if_follows true f r a = a
+if_follows : (b : Bool) (f : Op) (r : Ran) → (b ≡ true → Follows f r.func) → Follows f (ran_by b r (record { func = f; failed = None })).func
+if_follows true f r a = a refl
 if_follows false f r a = itself f
 
-functions_follow : (new : ℕ → ℕ → Supply) (bits : ℕ) (runs : Op → Bool) (us : List PassUse) (k : ℕ) (fs : List Op) → IsWidth bits → AllOf (λ (u : PassUse). IsKept u.pass) us → FreshFunctions new bits us k fs → Behind fs (functions_run new bits runs us k fs).funcs
+functions_follow : (new : ℕ → ℕ → Supply) (bits : ℕ) (runs : Op → Bool) (us : List PassUse) (k : ℕ) (fs : List Op) → IsWidth bits → AllOf (λ (u : PassUse). IsKept u.pass) us → FreshFunctions new bits runs us k fs → Behind fs (functions_run new bits runs us k fs).funcs
 functions_follow new bits runs us k [] w all fresh = tt
 functions_follow new bits runs us k (f ∷ fs) w all fresh =
-    (if_follows (runs f) f (passes_run (new k) bits k 0 us f) (passes_follow (new k) bits k 0 us f w all fresh.0), functions_follow new bits runs us (k + 1) fs w all fresh.1)
+    (if_follows (runs f) f (passes_run (new k) bits k 0 us f) (λ is. passes_follow (new k) bits k 0 us f w all (fresh.0 is)), functions_follow new bits runs us (k + 1) fs w all fresh.1)
 
 whole_follows : (name : PassName) (funcs : List Op) (s : Stood) → IsKept name → Behind funcs s.funcs → Behind funcs (whole_of name funcs s).funcs
 whole_follows name funcs s k a = go (is_empty s.failures)
@@ -142,11 +143,11 @@ stages_follow : (new : ℕ → ℕ → ℕ → Supply) (bits n : ℕ) (ss : List
 stages_follow new bits n [] funcs w all fresh = all_itself funcs
 stages_follow new bits n (s ∷ ss) funcs w all fresh =
     let first : Behind funcs (stage_run (new n) bits s funcs).funcs = stage_follows (new n) bits s funcs w all.0 fresh.0 in
-    go (stage_run (new n) bits s funcs) (is_empty (stage_run (new n) bits s funcs).failures) first (both funcs (stage_run (new n) bits s funcs).funcs (stages_run new bits (n + 1) ss (stage_run (new n) bits s funcs).funcs).funcs first
-    (stages_follow new bits (n + 1) ss (stage_run (new n) bits s funcs).funcs w all.1 fresh.1))
+    go (stage_run (new n) bits s funcs) (is_empty (stage_run (new n) bits s funcs).failures) first (λ good. both funcs (stage_run (new n) bits s funcs).funcs (stages_run new bits (n + 1) ss (stage_run (new n) bits s funcs).funcs).funcs first
+    (stages_follow new bits (n + 1) ss (stage_run (new n) bits s funcs).funcs w all.1 (fresh.1 good)))
   where
-    go : (x : Stood) (b : Bool) → Behind funcs x.funcs → Behind funcs (stages_run new bits (n + 1) ss x.funcs).funcs → Behind funcs (stood_by b (stages_run new bits (n + 1) ss x.funcs) x).funcs
-    go x true a c = c
+    go : (x : Stood) (b : Bool) → Behind funcs x.funcs → (b ≡ true → Behind funcs (stages_run new bits (n + 1) ss x.funcs).funcs) → Behind funcs (stood_by b (stages_run new bits (n + 1) ss x.funcs) x).funcs
+    go x true a c = c refl
     go x false a c = a
 
 pub fold_verified : FoldKeepsVerified

@@ -1,5 +1,5 @@
 -- What the laws on verified modules promise.
-use Rattle.std.specs.Prelude.{◌≡◌, ℕ, ◌+◌, List, [], ◌∷◌, Ok, ⊤}
+use Rattle.std.specs.Prelude.{◌≡◌, ℕ, List, [], ◌∷◌, Ok, ⊤}
 use Rattle.pipeline_text.specs.declared.pass.PassName.{PassName}
 use Rattle.pipeline_text.specs.declared.pass.PassName.TheVariants.{ArithExpand, ConvertArithToLlvm, ConvertCfToLlvm, ReconcileUnrealizedCasts}
 use Rattle.pipeline_text.specs.declared.pass.PassUse.{PassUse}
@@ -13,7 +13,8 @@ use Rattle.rule_model.specs.Rules.{Verified}
 use Rattle.conversion_model.specs.Conversion.{Supply}
 use Rattle.conversion_model.specs.Fresh.{Fresh}
 use Rattle.pattern_model.specs.PassTable.{pass_tree}
-use Rattle.pattern_model.specs.Fold.{folded, stage_run, width}
+use Rattle.pattern_model.specs.Fold.{folded, width}
+use Rattle.fold_model.specs.FreshFolds.{FreshStages}
 
 -- functions in order, each as it was or what the pass makes of it with fresh numbers
 pub data Replaced (name : PassName) (bits : ℕ) : List Op → List Op → Type 0 where
@@ -54,23 +55,6 @@ IsKept _ = ⊥
 abbrev pub KeptStage : Stage → Type 0
 KeptStage (Whole u) = IsKept u.pass
 KeptStage (Each anchor us) = AllOf (λ (u : PassUse). IsKept u.pass) us
-
--- the new numbers of each pass on a function are fresh for the function that it is run on
-abbrev pub FreshPasses : (ℕ → Supply) → ℕ → ℕ → List PassUse → Op → Type 0
-FreshPasses new bits position [] f = ⊤
-FreshPasses new bits position (u ∷ us) f = Fresh (new position) f × ((g : Op) → pass_tree u.pass bits (new position) f ≡ Ok g → FreshPasses new bits (position + 1) us g)
-
-abbrev pub FreshFunctions : (ℕ → ℕ → Supply) → ℕ → List PassUse → ℕ → List Op → Type 0
-FreshFunctions new bits us k [] = ⊤
-FreshFunctions new bits us k (f ∷ fs) = FreshPasses (new k) bits 0 us f × FreshFunctions new bits us (k + 1) fs
-
-abbrev pub FreshStage : (ℕ → ℕ → Supply) → ℕ → Stage → List Op → Type 0
-FreshStage new bits (Whole u) funcs = FreshFunctions new bits (u ∷ []) 0 funcs
-FreshStage new bits (Each anchor us) funcs = FreshFunctions new bits us 0 funcs
-
-abbrev pub FreshStages : (ℕ → ℕ → ℕ → Supply) → ℕ → ℕ → List Stage → List Op → Type 0
-FreshStages new bits n [] funcs = ⊤
-FreshStages new bits n (s ∷ ss) funcs = FreshStage (new n) bits s funcs × FreshStages new bits (n + 1) ss (stage_run (new n) bits s funcs).funcs
 
 -- the fold of a pipeline of these passes over a verified module is verified, also where it fails
 abbrev pub FoldKeepsVerified : Type 0

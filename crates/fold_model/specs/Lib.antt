@@ -1,0 +1,2 @@
+pub mod FreshFolds
+pub mod Runs
