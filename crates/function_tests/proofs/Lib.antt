@@ -1,0 +1,4 @@
+pub mod Heads
+pub mod Targets
+pub mod Runs
+pub mod SiteFacts
