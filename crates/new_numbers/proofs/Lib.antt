@@ -1,0 +1,4 @@
+pub mod TopLayers
+pub mod TopLaws
+pub mod FreshTables
+pub mod PlaceLaws
