@@ -1,5 +1,5 @@
 -- The events of the text of words, one by one.
-use Rattle.std.proofs.Common.{◌≡◌, ℕ, zero, suc, ◌+◌, ◌-◌, ◌<◌, Bool, true, false, not, ◌&&◌, cond, List, [], ◌∷◌, ◌++◌, map, length, take, drop, Option, Some, None, refl, sym, ap, ◌∙◌, subst, arith, append_assoc, length-append}
+use Rattle.std.proofs.Common.{◌≡◌, ℕ, suc, ◌+◌, ◌-◌, Bool, true, false, not, cond, List, [], ◌∷◌, ◌++◌, map, length, take, drop, Option, Some, None, refl, sym, ap, ◌∙◌, arith, append_assoc, length-append}
 use Rattle.std.specs.Prelude.{slice_get, position, if◌then◌else◌}
 use Rattle.std.specs.List.{position_from}
 use Rattle.std.specs.Option.{unwrap_or}
@@ -12,12 +12,12 @@ use Rattle.text_grammar.specs.declared.places.Place.{Place}
 use Rattle.text_grammar.specs.declared.places.Place.TheVariants as places
 use Rattle.text_grammar.specs.declared.words.Word.{Word}
 use Rattle.text_events.specs.Spelling.{piece, spelled, core, unescaped}
-use Rattle.text_events.specs.Names.{is_sign, spells, name_of, names_from, names_of}
-use Rattle.text_events.specs.Source.{bytes_of, piece_or, spelled_of, spelled_or, number_in, number_of, size_of, width_of, is_void, is_own, event_at, events_from, events_of}
+use Rattle.text_events.specs.Names.{is_sign, spells, name_of, names_from}
+use Rattle.text_events.specs.Source.{bytes_of, piece_or, spelled_of, spelled_or, number_in, number_of, index_of, size_of, width_of, is_void, is_own, events_from}
 use Rattle.text_types.specs.Spelling.{Spelling}
 use Rattle.event_trees.specs.Wording.{Wording, wording_of}
 use Rattle.printed_words.specs.Words.{PrintedWord, text_of, word_at, words_from}
-use Rattle.printed_terms.specs.Told.{Told, no_words, one_more, Says, width_in, size_in, is_void_in}
+use Rattle.printed_terms.specs.Told.{Told, no_words, one_more, Says, width_in, size_in, index_in, is_void_in}
 use Rattle.printed_terms.specs.Told as told
 use Rattle.printed_events.specs.Events.{spelling_in, WordsAreTold}
 
@@ -70,6 +70,7 @@ record Facts (sp : Spelling) (wd : Wording) (kind : Kind) (bytes : List ℕ) (ow
   number : sp.number own ≡ number_in bytes
   void : sp.is_void own ≡ is_void_in bytes
   value : wd.number own ≡ number_in bytes
+  index : wd.index own ≡ index_in bytes
   spelled_own : wd.spelled own ≡ told.spells kind bytes
   spelled_name : wd.spelled name ≡ told.spells kind bytes
 
@@ -90,6 +91,13 @@ says sp wd places.EntryName kind bytes own name f = f.spelled_name
 says sp wd places.DialectName kind bytes own name f = f.spelled_name
 says sp wd places.DialectWord kind bytes own name f = f.spelled_name
 says sp wd places.OpName kind bytes own name f = f.spelled_own
+says sp wd places.ResultName kind bytes own name f = f.spelled_name
+says sp wd places.UseName kind bytes own name f = f.spelled_name
+says sp wd places.ArgName kind bytes own name f = f.spelled_name
+says sp wd places.BlockLabel kind bytes own name f = f.spelled_name
+says sp wd places.SuccessorName kind bytes own name f = f.spelled_name
+says sp wd places.ResultNumber kind bytes own name f = f.number
+says sp wd places.UseNumber kind bytes own name f = f.index
 says sp wd _ kind bytes own name f = tt
 
 module _ (text : List ℕ) (words : List Word) where
@@ -118,6 +126,10 @@ module _ (text : List ℕ) (words : List Word) where
   unfolding number_of
   own_number i bytes e = ap number_in e
 
+  own_index : (i : ℕ) (bytes : List ℕ) → bytes_of text words i ≡ bytes → index_of text words i ≡ index_in bytes
+  unfolding index_of
+  own_index i bytes e = ap index_in e
+
   own_void : (i : ℕ) (bytes : List ℕ) → bytes_of text words i ≡ bytes → is_void text words i ≡ is_void_in bytes
   unfolding is_void
   own_void i bytes e = ap is_void_in e
@@ -135,6 +147,7 @@ module _ (text : List ℕ) (words : List Word) where
         number = own_number i bytes own;
         void = own_void i bytes own;
         value = own_number i bytes own;
+        index = own_index i bytes own;
         spelled_own = ap (spelled_or text) there ∙ spelled_is w bytes is;
         spelled_name = name_spells i w there ∙ spelled_is w bytes is;
       }

@@ -39,7 +39,8 @@ use Rattle.printed_attrs.specs.AttrWords.{attr_words, items_words, more_items, d
 use Rattle.printed_attrs.specs.Readable.{is_readable, are_readable, is_readable_dict, are_bytes, is_dialect_name}
 use Rattle.printed_attrs.proofs.ReadLemmas.{number_type, or_other}
 use Rattle.printed_attrs.proofs.ApartLemmas.{byte_width, byte_some}
-use Rattle.printed_terms.specs.Told.{Told, Says, no_words, one_more, spells}
+use Rattle.printed_terms.specs.Told.{Says, spells}
+use Rattle.printed_terms.proofs.SeenWords.{Seen, no_words, one_more}
 use Rattle.printed_terms.specs.Ordered.{is_next, is_ordered, are_ordered, is_ordered_dict, first_place, IsQuiet}
 use Rattle.printed_terms.proofs.NumberLemmas.{decimal_number, width_is}
 use Rattle.printed_terms.proofs.SpellLemmas.{string_spelled, bare_spelled, name_spelled, symbol_spelled, dialect_spelled}
@@ -134,28 +135,28 @@ insert_first name a (more_entries other b d) h = ap (λ t. if t then (other, att
     not_is true h = sym h
     not_is false h = refl
 
-sorted_is : (d : PlainDict) → is_ordered_dict d ≡ true → sorted (dict_tree d) ≡ dict_tree d
+pub sorted_is : (d : PlainDict) → is_ordered_dict d ≡ true → sorted (dict_tree d) ≡ dict_tree d
 sorted_is end_of_entries h = refl
 sorted_is (more_entries name a d) h = ap (insert (name, attr_tree a)) (sorted_is d (and-right (is_ordered a) _ (and-right (is_next name d) _ h))) ∙ insert_first name a d (and-left _ _ h)
 
-module _ (words : Spelling) (wording : Wording) (aliases : Aliases) where
+module _ (words : Spelling) (wording : Wording) (Is : List Event → Type 0) (aliases : Aliases) where
   record Said (w : PrintedWord) (ws : List PrintedWord) (es : List Event) : Type 0 where
     name : ℕ
     behind : List Event
     is : es ≡ record { place = w.place; name = name } ∷ behind
     says : Says words wording w.place w.kind w.bytes name
-    told : Told words wording ws behind
+    told : Seen words wording Is ws behind
 
-  first : {w : PrintedWord} {ws : List PrintedWord} {es : List Event} → Told words wording (w ∷ ws) es → Said w ws es
-  first (one_more w name says more) = record { name = name; behind = _; is = refl; says = says; told = more }
+  first : {w : PrintedWord} {ws : List PrintedWord} {es : List Event} → Seen words wording Is (w ∷ ws) es → Said w ws es
+  first (one_more w name says _ more) = record { name = name; behind = _; is = refl; says = says; told = more }
 
-  next_place : {ws : List PrintedWord} {es : List Event} → Told words wording ws es → place_next es ≡ first_place ws
-  next_place no_words = refl
-  next_place (one_more w name says more) = refl
+  next_place : {ws : List PrintedWord} {es : List Event} → Seen words wording Is ws es → place_next es ≡ first_place ws
+  next_place (no_words _) = refl
+  next_place (one_more w name says _ more) = refl
 
   pub record TookAttr (rest : List PrintedWord) (es : List Event) (a : PlainAttr) : Type 0 where
     pub behind : List Event
-    pub told : Told words wording rest behind
+    pub told : Seen words wording Is rest behind
     pub term : Term
     pub terms : items words aliases es ≡ term ∷ items words aliases behind
     pub is : attr_of wording term ≡ attr_tree a
@@ -164,32 +165,32 @@ module _ (words : Spelling) (wording : Wording) (aliases : Aliases) where
   -- a list up to a closing sign, at which `nothing` was put
   pub record TookList {X : Type 0} (of : Term → X) (rest : List PrintedWord) (es : List Event) (x : X) : Type 0 where
     pub behind : List Event
-    pub told : Told words wording rest behind
+    pub told : Seen words wording Is rest behind
     pub term : Term
     pub terms : (more : List Term) → items words aliases behind ≡ nothing ∷ more → items words aliases es ≡ term ∷ more
     pub is : of term ≡ x
 
   pub record TookItems (rest : List PrintedWord) (es : List Event) (attrs : PlainAttrs) : Type 0 where
     pub behind : List Event
-    pub told : Told words wording rest behind
+    pub told : Seen words wording Is rest behind
     pub term : Term
     pub terms : (alias : Term) (more : List Term) → opens_items (place_next behind) ≡ Keep → items words aliases behind ≡ nothing ∷ more → acted alias (opens_items (place_next es)) (items words aliases es) ≡ term ∷ more
     pub is : items_of wording term ≡ attr_trees attrs
 
   -- one of two lists of words
-  either : {R : Type 0} (b : Bool) (xs ys : List PrintedWord) (es : List Event) → (b ≡ true → Told words wording xs es → R) → (b ≡ false → Told words wording ys es → R) → Told words wording (if b then xs else ys) es → R
+  either : {R : Type 0} (b : Bool) (xs ys : List PrintedWord) (es : List Event) → (b ≡ true → Seen words wording Is xs es → R) → (b ≡ false → Seen words wording Is ys es → R) → Seen words wording Is (if b then xs else ys) es → R
   either true xs ys es f g told = f refl told
   either false xs ys es f g told = g refl told
 
   -- integers
   wide_terms : (gap : List ℕ) (v : ℤ) (t : PlainType) (rest : List PrintedWord) (es : List Event) → is_formed_type t ≡ true → is_number_of t v ≡ true
-      → Told words wording (signed_words gap places.IntegerMinus places.IntegerNumber v (word (codes " ") places.NumberColon kinds.Colon (codes ":") ∷ type_words false places.ElementWord (codes " ") t rest)) es → TookAttr rest es (Number v t)
+      → Seen words wording Is (signed_words gap places.IntegerMinus places.IntegerNumber v (word (codes " ") places.NumberColon kinds.Colon (codes ":") ∷ type_words false places.ElementWord (codes " ") t rest)) es → TookAttr rest es (Number v t)
   wide_terms gap (pos n) t rest es f h told =
       let number : is_number t ≡ true = number_type t (pos n) h in
       let range = range_of t (pos n) f h in
       let k = first told in
       let c = first k.told in
-      let ty = number_terms words wording aliases false (codes " ") t rest c.behind number f c.told in
+      let ty = number_terms words wording Is aliases false (codes " ") t rest c.behind number f c.told in
       let own : wording.number k.name ≡ n = k.says ∙ decimal_number n (range.small n refl) in
       record {
         behind = ty.behind;
@@ -206,7 +207,7 @@ module _ (words : Spelling) (wording : Wording) (aliases : Aliases) where
       let m = first told in
       let k = first m.told in
       let c = first k.told in
-      let ty = number_terms words wording aliases false (codes " ") t rest c.behind number f c.told in
+      let ty = number_terms words wording Is aliases false (codes " ") t rest c.behind number f c.told in
       let own : wording.number k.name ≡ suc n = k.says ∙ decimal_number (suc n) (range.least n refl) in
       record {
         behind = ty.behind;
@@ -220,7 +221,7 @@ module _ (words : Spelling) (wording : Wording) (aliases : Aliases) where
 
   -- the numbers of an array
   listed_terms : (bits : ℕ) (gap : List ℕ) (v : ℤ) (vs : List ℤ) (more rest : List PrintedWord) (es : List Event) → 0 < bits → bits ≤ 64 → is_signed bits v ≡ true
-      → ((behind : List Event) → Told words wording more behind → TookList (numbers_of wording bits) rest behind vs) → Told words wording (signed_words gap places.ListedMinus places.ListedNumber v more) es → TookList (numbers_of wording bits) rest es (v ∷ vs)
+      → ((behind : List Event) → Seen words wording Is more behind → TookList (numbers_of wording bits) rest behind vs) → Seen words wording Is (signed_words gap places.ListedMinus places.ListedNumber v more) es → TookList (numbers_of wording bits) rest es (v ∷ vs)
   listed_terms bits gap (pos n) vs more rest es some few h others told =
       let range = in_range bits (pos n) some few h in
       let k = first told in
@@ -247,14 +248,14 @@ module _ (words : Spelling) (wording : Wording) (aliases : Aliases) where
         is = ap (λ x. negative x ∷ numbers_of wording bits o.term) own ∙ ap (λ z. z ∷ numbers_of wording bits o.term) (negative_is n) ∙ ap (λ zs. negsuc n ∷ zs) o.is;
       }
 
-  more_listed : (bits : ℕ) (vs : List ℤ) (rest : List PrintedWord) (es : List Event) → 0 < bits → bits ≤ 64 → list_all (is_signed bits) vs ≡ true → Told words wording (more_numbers vs rest) es → TookList (numbers_of wording bits) rest es vs
+  more_listed : (bits : ℕ) (vs : List ℤ) (rest : List PrintedWord) (es : List Event) → 0 < bits → bits ≤ 64 → list_all (is_signed bits) vs ≡ true → Seen words wording Is (more_numbers vs rest) es → TookList (numbers_of wording bits) rest es vs
   more_listed bits [] rest es some few h told = record { behind = es; told = told; term = nothing; terms = λ more e. e; is = refl }
   more_listed bits (v ∷ vs) rest es some few h told =
       let c = first told in
       let o = listed_terms bits (codes " ") v vs (more_numbers vs rest) rest c.behind some few (and-left _ _ h) (λ behind t. more_listed bits vs rest behind some few (and-right (is_signed bits v) _ h) t) c.told in
       record { behind = o.behind; told = o.told; term = o.term; terms = λ more e. ap (items words aliases) c.is ∙ o.terms more e; is = o.is }
 
-  numbers_terms : (bits : ℕ) (vs : List ℤ) (rest : List PrintedWord) (es : List Event) → 0 < bits → bits ≤ 64 → list_all (is_signed bits) vs ≡ true → Told words wording (numbers_words vs rest) es → TookList (numbers_of wording bits) rest es vs
+  numbers_terms : (bits : ℕ) (vs : List ℤ) (rest : List PrintedWord) (es : List Event) → 0 < bits → bits ≤ 64 → list_all (is_signed bits) vs ≡ true → Seen words wording Is (numbers_words vs rest) es → TookList (numbers_of wording bits) rest es vs
   numbers_terms bits [] rest es some few h told = record { behind = es; told = told; term = nothing; terms = λ more e. e; is = refl }
   numbers_terms bits (v ∷ vs) rest es some few h told =
       let c = first told in
@@ -262,7 +263,7 @@ module _ (words : Spelling) (wording : Wording) (aliases : Aliases) where
       record { behind = o.behind; told = o.told; term = o.term; terms = λ more e. ap (items words aliases) c.is ∙ o.terms more e; is = o.is }
 
   -- the words of a dialect attribute
-  more_dialect_terms : (names : List (List ℕ)) (rest : List PrintedWord) (es : List Event) → list_all is_bare names ≡ true → Told words wording (more_dialect names rest) es → TookList (words_of wording) rest es names
+  more_dialect_terms : (names : List (List ℕ)) (rest : List PrintedWord) (es : List Event) → list_all is_bare names ≡ true → Seen words wording Is (more_dialect names rest) es → TookList (words_of wording) rest es names
   more_dialect_terms [] rest es h told = record { behind = es; told = told; term = nothing; terms = λ more e. e; is = refl }
   more_dialect_terms (n ∷ names) rest es h told =
       let c = first told in
@@ -277,7 +278,7 @@ module _ (words : Spelling) (wording : Wording) (aliases : Aliases) where
       }
 
   dialect_terms : (gap : List ℕ) (name : List ℕ) (names : List (List ℕ)) (rest : List PrintedWord) (es : List Event) → is_dialect_name name ≡ true → list_all is_bare names ≡ true → IsQuiet rest
-      → Told words wording (word gap places.DialectName kinds.HashDotted (codes "#" ++ name) ∷ dialect_words names rest) es → TookAttr rest es (Dialect name names)
+      → Seen words wording Is (word gap places.DialectName kinds.HashDotted (codes "#" ++ name) ∷ dialect_words names rest) es → TookAttr rest es (Dialect name names)
   dialect_terms gap name [] rest es f h quiet told =
       let k = first told in
       let alone : dialect_of k.name (place_next k.behind) ≡ Put forms.Dialect k.name = ap (dialect_of k.name) (next_place k.told) ∙ quiet.dialect k.name in
@@ -308,9 +309,9 @@ module _ (words : Spelling) (wording : Wording) (aliases : Aliases) where
       }
 
   -- a type
-  type_attr : (gap : List ℕ) (t : PlainType) (rest : List PrintedWord) (es : List Event) → is_formed_type t ≡ true → Told words wording (type_words false places.IntegerWord gap t rest) es → TookAttr rest es (OfType t)
+  type_attr : (gap : List ℕ) (t : PlainType) (rest : List PrintedWord) (es : List Event) → is_formed_type t ≡ true → Seen words wording Is (type_words false places.IntegerWord gap t rest) es → TookAttr rest es (OfType t)
   type_attr gap t rest es f told =
-      let k = type_terms words wording aliases false gap t rest es f told in
+      let k = type_terms words wording Is aliases false gap t rest es f told in
       record { behind = k.behind; told = k.told; term = term_of t; terms = k.terms; is = of_type t; begins = k.begins.listed }
     where
       of_type : (u : PlainType) → attr_of wording (term_of u) ≡ attr.OfType (type_tree u)
@@ -335,9 +336,9 @@ module _ (words : Spelling) (wording : Wording) (aliases : Aliases) where
 
   -- an entry behind its name
   entry_terms : (unit : Bool) (name : List ℕ) (a : PlainAttr) (d : PlainDict) (n : ℕ) (rest value more : List PrintedWord) (es : List Event) → wording.spelled n ≡ name → is_unit a ≡ unit → IsQuiet more
-      → ((behind : List Event) → Told words wording more behind → TookList (entries_of wording) rest behind (dict_tree d))
-      → (unit ≡ false → (behind : List Event) → Told words wording value behind → TookAttr more behind a)
-      → Told words wording (valued unit more value) es → TookList (entries_of wording) rest (record { place = places.EntryName; name = n } ∷ es) ((name, attr_tree a) ∷ dict_tree d)
+      → ((behind : List Event) → Seen words wording Is more behind → TookList (entries_of wording) rest behind (dict_tree d))
+      → (unit ≡ false → (behind : List Event) → Seen words wording Is value behind → TookAttr more behind a)
+      → Seen words wording Is (valued unit more value) es → TookList (entries_of wording) rest (record { place = places.EntryName; name = n } ∷ es) ((name, attr_tree a) ∷ dict_tree d)
   entry_terms true name Unit d n rest value more es own u quiet others inner told =
       let o = others es told in
       record {
@@ -368,7 +369,7 @@ module _ (words : Spelling) (wording : Wording) (aliases : Aliases) where
       }
 
   mutual
-    pub attr_terms : (gap : List ℕ) (a : PlainAttr) (rest : List PrintedWord) (es : List Event) → is_readable a ≡ true → is_ordered a ≡ true → IsQuiet rest → Told words wording (attr_words gap a rest) es → TookAttr rest es a
+    pub attr_terms : (gap : List ℕ) (a : PlainAttr) (rest : List PrintedWord) (es : List Event) → is_readable a ≡ true → is_ordered a ≡ true → IsQuiet rest → Seen words wording Is (attr_words gap a rest) es → TookAttr rest es a
     attr_terms gap Unit rest es r o quiet told = absurd (false≢true r)
     attr_terms gap (Number v t) rest es r o quiet told =
         let formed : is_formed_type t ≡ true = and-left _ _ r in
@@ -427,7 +428,7 @@ module _ (words : Spelling) (wording : Wording) (aliases : Aliases) where
         }
     attr_terms gap (Dialect name names) rest es r o quiet told = dialect_terms gap name names rest es (and-left _ _ r) (and-right (is_dialect_name name) _ r) quiet told
 
-    pub items_terms : (attrs : PlainAttrs) (rest : List PrintedWord) (es : List Event) → are_readable attrs ≡ true → are_ordered attrs ≡ true → IsQuiet rest → Told words wording (items_words attrs rest) es → TookItems rest es attrs
+    pub items_terms : (attrs : PlainAttrs) (rest : List PrintedWord) (es : List Event) → are_readable attrs ≡ true → are_ordered attrs ≡ true → IsQuiet rest → Seen words wording Is (items_words attrs rest) es → TookItems rest es attrs
     items_terms end_of_attrs rest es r o quiet told = record { behind = es; told = told; term = nothing; terms = λ alias more keep e. ap (λ a. acted alias a (items words aliases es)) keep ∙ e; is = refl }
     items_terms (more_attrs a attrs) rest es r o quiet told =
         let k = attr_terms [] a _ es (and-left _ _ r) (and-left _ _ o) (more_items_quiet attrs rest quiet) told in
@@ -440,7 +441,7 @@ module _ (words : Spelling) (wording : Wording) (aliases : Aliases) where
           is = ap (λ t. t ∷ items_of wording m.term) k.is ∙ ap (λ ts. attr_tree a ∷ ts) m.is;
         }
 
-    pub more_items_terms : (attrs : PlainAttrs) (rest : List PrintedWord) (es : List Event) → are_readable attrs ≡ true → are_ordered attrs ≡ true → IsQuiet rest → Told words wording (more_items attrs rest) es → TookList (items_of wording) rest es (attr_trees attrs)
+    pub more_items_terms : (attrs : PlainAttrs) (rest : List PrintedWord) (es : List Event) → are_readable attrs ≡ true → are_ordered attrs ≡ true → IsQuiet rest → Seen words wording Is (more_items attrs rest) es → TookList (items_of wording) rest es (attr_trees attrs)
     more_items_terms end_of_attrs rest es r o quiet told = record { behind = es; told = told; term = nothing; terms = λ more e. e; is = refl }
     more_items_terms (more_attrs a attrs) rest es r o quiet told =
         let c = first told in
@@ -454,7 +455,7 @@ module _ (words : Spelling) (wording : Wording) (aliases : Aliases) where
           is = ap (λ t. t ∷ items_of wording m.term) k.is ∙ ap (λ ts. attr_tree a ∷ ts) m.is;
         }
 
-    pub dict_terms : (d : PlainDict) (rest : List PrintedWord) (es : List Event) → is_readable_dict d ≡ true → is_ordered_dict d ≡ true → IsQuiet rest → Told words wording (dict_words d rest) es → TookList (entries_of wording) rest es (dict_tree d)
+    pub dict_terms : (d : PlainDict) (rest : List PrintedWord) (es : List Event) → is_readable_dict d ≡ true → is_ordered_dict d ≡ true → IsQuiet rest → Seen words wording Is (dict_words d rest) es → TookList (entries_of wording) rest es (dict_tree d)
     dict_terms end_of_entries rest es r o quiet told = record { behind = es; told = told; term = nothing; terms = λ more e. e; is = refl }
     dict_terms (more_entries name a d) rest es r o quiet told =
         let both : ((is_unit a || is_readable a) && is_readable_dict d) ≡ true = and-right (are_bytes name) _ r in
@@ -465,7 +466,7 @@ module _ (words : Spelling) (wording : Wording) (aliases : Aliases) where
         (λ no behind t. attr_terms (codes " ") a _ behind (or_other (is_unit a) _ (and-left (is_unit a || is_readable a) _ both) no) (and-left _ _ order) (more_dict_quiet d rest quiet) t) k.told in
         record { behind = e.behind; told = e.told; term = e.term; terms = λ more h. ap (items words aliases) k.is ∙ e.terms more h; is = e.is }
 
-    pub more_dict_terms : (d : PlainDict) (rest : List PrintedWord) (es : List Event) → is_readable_dict d ≡ true → is_ordered_dict d ≡ true → IsQuiet rest → Told words wording (more_dict d rest) es → TookList (entries_of wording) rest es (dict_tree d)
+    pub more_dict_terms : (d : PlainDict) (rest : List PrintedWord) (es : List Event) → is_readable_dict d ≡ true → is_ordered_dict d ≡ true → IsQuiet rest → Seen words wording Is (more_dict d rest) es → TookList (entries_of wording) rest es (dict_tree d)
     more_dict_terms end_of_entries rest es r o quiet told = record { behind = es; told = told; term = nothing; terms = λ more e. e; is = refl }
     more_dict_terms (more_entries name a d) rest es r o quiet told =
         let both : ((is_unit a || is_readable a) && is_readable_dict d) ≡ true = and-right (are_bytes name) _ r in

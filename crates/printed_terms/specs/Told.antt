@@ -21,6 +21,10 @@ width_in bytes = if bytes_eq bytes (codes "index") then None else Some (capped_v
 abbrev pub size_in : List ℕ → Option ℕ
 size_in bytes = if bytes_eq bytes (codes "?") then None else Some (capped_value 10 bytes)
 
+-- the index of a use behind its `#`
+abbrev pub index_in : List ℕ → ℕ
+index_in bytes = capped_value 10 (drop 1 bytes)
+
 abbrev pub is_void_in : List ℕ → Bool
 is_void_in bytes = bytes_eq bytes (codes "void") || bytes_eq bytes (codes "!llvm.void")
 
@@ -46,6 +50,13 @@ Says words wording places.EntryName kind bytes name = wording.spelled name ≡ s
 Says words wording places.DialectName kind bytes name = wording.spelled name ≡ spells kind bytes
 Says words wording places.DialectWord kind bytes name = wording.spelled name ≡ spells kind bytes
 Says words wording places.OpName kind bytes name = wording.spelled name ≡ spells kind bytes
+Says words wording places.ResultName kind bytes name = wording.spelled name ≡ spells kind bytes
+Says words wording places.UseName kind bytes name = wording.spelled name ≡ spells kind bytes
+Says words wording places.ArgName kind bytes name = wording.spelled name ≡ spells kind bytes
+Says words wording places.BlockLabel kind bytes name = wording.spelled name ≡ spells kind bytes
+Says words wording places.SuccessorName kind bytes name = wording.spelled name ≡ spells kind bytes
+Says words wording places.ResultNumber kind bytes name = words.number name ≡ number_in bytes
+Says words wording places.UseNumber kind bytes name = wording.index name ≡ index_in bytes
 Says words wording _ kind bytes name = ⊤
 
 -- events that have these words

@@ -1,0 +1,5 @@
+pub mod Numbering
+pub mod Settled
+pub mod Serving
+pub mod Roles
+pub mod Laws

@@ -1,0 +1,4 @@
+pub mod Sorted
+pub mod AttrOrder
+pub mod Trees
+pub mod Modules
