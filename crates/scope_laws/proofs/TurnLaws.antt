@@ -226,6 +226,7 @@ module _ (out : Bool) (R : ℕ → ℕ → Type 0) where
     where
       grows : (n : ℕ) → beyond < n → beyond < suc n
       grows n b = omega arith
+
       counts : (m n : ℕ) → beyond < n → suc m + (n - 1 - beyond) ≡ m + (suc n - 1 - beyond)
       counts m n b = omega arith
 
@@ -239,6 +240,10 @@ module _ (out : Bool) (R : ℕ → ℕ → Type 0) where
       inside_some m k e = cc
       below : length ts ≡ beyond → beyond < suc (length ts)
       below n = omega arith
+
+      below : length ts ≡ beyond → beyond < suc (length ts)
+      below n = omega arith
+
       counts : length ts ≡ beyond → at ≡ at + (suc (length ts) - 1 - beyond)
       counts n = omega arith
   ahead_here_found false e name at beyond ts is r found deep = later name at beyond (steps.Defines, e) ts (deep found)
@@ -276,11 +281,13 @@ module _ (out : Bool) (R : ℕ → ℕ → Type 0) where
     where
       counts : (m n k : ℕ) → k < n → m + 1 + (n - 1 - k) ≡ m + n - k
       counts m n k h = omega arith
+
       by_ahead : (o : Option ℕ) → seen out name 0 (map mirror ahead) ≡ o → is_some o ≡ true → Found name (option_map (λ beyond. length before + length ahead - beyond) o)
       by_ahead None is h = absurd (true≢false (sym h))
       by_ahead (Some beyond) is h =
           let f = sound_ahead name 0 (length before + 1) beyond ahead a is in
           record { place = length before + length ahead - beyond; is = refl; right = subst (λ (k : ℕ). R name k) (counts (length before) (length ahead) beyond f.below) f.right }
+
       by_back : (o : Option ℕ) → seen out name 0 before ≡ o → (is_some o ≡ true) ⊎ (is_some (seen out name 0 (map mirror ahead)) ≡ true) → Found name (or_else o (option_map (λ beyond. length before + length ahead - beyond) (seen out name 0 (map mirror ahead))))
       by_back (Some place) is h = record { place = place; is = refl; right = sound_back name 0 place before b is }
       by_back None is (inl h) = absurd (true≢false (sym h))

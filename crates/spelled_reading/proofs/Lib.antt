@@ -1,0 +1,4 @@
+pub mod AttrBytes
+pub mod Trees
+pub mod Modules
+pub mod WordBytes
