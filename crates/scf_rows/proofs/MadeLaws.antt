@@ -1,5 +1,5 @@
 -- The cuts of trees are those of the rows.
-use Rattle.std.proofs.Common.{◌≡◌, ℕ, ◌+◌, ◌*◌, ◌==◌, zero, suc, Bool, true, false, List, [], ◌∷◌, ◌++◌, append_assoc, length, map, Option, Some, None, refl, sym, ap, ◌∙◌}
+use Rattle.std.proofs.Common.{◌≡◌, ℕ, ◌+◌, ◌*◌, ◌==◌, zero, Bool, true, false, List, [], ◌∷◌, ◌++◌, append_assoc, length, map, Option, Some, None, refl, sym, ap, ◌∙◌}
 use Rattle.std.specs.Prelude.{ℤ, codes, option_map, pos, if◌then◌else◌}
 use Rattle.std.proofs.lemmas.List.{length-map}
 use Rattle.tree_model.specs.declared.type_tree.TypeTree.{TypeTree}
@@ -9,12 +9,11 @@ use Rattle.plain_tree.specs.Attrs.{Entries, PlainAttr, entries_tree, plain_entri
 use Rattle.plain_tree.specs.Attrs as attr
 use Rattle.plain_tree.proofs.AttrOpens.{entries_again}
 use Rattle.plain_tree.proofs.TypeOpens.{plain-Index, plain-Int}
-use Rattle.plain_tree.specs.Ops.{Values}
-use Rattle.conversion_model.specs.Rows.{Numbers, Piece, Opens, Held, Stands}
+use Rattle.conversion_model.specs.Rows.{Numbers, Piece, Opens, Stands}
 use Rattle.pattern_model.specs.Drafts.{constant_value, predicate, sizes}
-use Rattle.pattern_model.specs.ScfRows.{Single, branch, case_pieces, conditional, for_of, for_pieces, head_pieces, held_block, if_alone, if_of, or_none, product, stand_for, switch_blocks, switch_cases, switch_pieces, test_pieces, tests, while_of, while_passed, with_single, with_type, yields_to}
+use Rattle.pattern_model.specs.ScfRows.{Single, branch, case_pieces, conditional, for_of, head_pieces, held_block, if_alone, if_of, product, stand_for, switch_blocks, switch_cases, switch_pieces, test_pieces, tests, while_of, while_passed, with_single, with_type, yields_to}
 use Rattle.cut_code.specs.Pieces.{known_types, label_at, piece_of, pieces_of, pieces_or_none, value_at}
-use Rattle.cut_code.specs.Sketches.{BlockView, block_view, plain_values, region_view}
+use Rattle.cut_code.specs.Sketches.{block_view, plain_values, region_view}
 use Rattle.cut_code.specs.declared.pieces.CutValue.{CutValue}
 use Rattle.cut_code.specs.declared.pieces.CutValue.TheVariants.{Old, New}
 use Rattle.cut_code.specs.declared.pieces.CutLabel.{CutLabel}

@@ -1,13 +1,13 @@
 -- The rows look at sketches alone.
-use Rattle.std.proofs.Common.{◌≡◌, ℕ, ◌+◌, zero, suc, List, [], ◌∷◌, length, Option, Some, None, refl, sym, ap, ◌∙◌}
+use Rattle.std.proofs.Common.{◌≡◌, ℕ, ◌+◌, List, [], ◌∷◌, Option, Some, refl, ap, ◌∙◌}
 use Rattle.std.specs.Prelude.{codes}
 use Rattle.plain_tree.specs.Types.{PlainType}
 use Rattle.plain_tree.specs.Attrs.{entry}
-use Rattle.plain_tree.specs.Ops.{Op, op, Ops, Regions, end_of_regions, region, Blocks, end_of_blocks, block, Values}
+use Rattle.plain_tree.specs.Ops.{Op, op, Regions, end_of_regions, region, Blocks, end_of_blocks, block}
 use Rattle.conversion_model.specs.Rows.{Numbers, Piece, Opens}
-use Rattle.pattern_model.specs.ScfRows.{Single, branch, execute_row, for_of, for_row, held_block, held_blocks, if_alone, if_of, if_row, or_none, passed_by, single, singles, switch_cases, switch_row, while_of, while_row, with_single}
+use Rattle.pattern_model.specs.ScfRows.{branch, execute_row, for_row, held_block, held_blocks, if_alone, if_of, if_row, passed_by, single, singles, switch_cases, switch_row, while_of, while_row, with_single}
 use Rattle.cut_code.specs.Sketches.{OpView, blocks_seen, regions_seen, sketch_of}
-use Rattle.scf_rows.specs.Seen.{execute_seen, for_seen, held_seen, if_either_seen, if_seen, single_seen, singles_seen, switch_seen, while_seen}
+use Rattle.scf_rows.specs.Seen.{execute_seen, for_seen, held_seen, if_seen, single_seen, singles_seen, switch_seen, while_seen}
 
 single_is : (bs : Blocks) → single bs ≡ single_seen (blocks_seen bs)
 single_is end_of_blocks = refl

@@ -5,7 +5,7 @@ use Rattle.std.proofs.lemmas.Option.{slice_get-map}
 use Rattle.plain_tree.specs.Types.{PlainType}
 use Rattle.plain_tree.specs.Attrs.{plain_entries}
 use Rattle.plain_tree.specs.Ops.{Op}
-use Rattle.conversion_model.specs.Rows.{Numbers, Pattern}
+use Rattle.conversion_model.specs.Rows.{Numbers}
 use Rattle.conversion_model.specs.Targets.{Shape}
 use Rattle.pattern_model.specs.ScfRows.{scf_set}
 use Rattle.row_code.specs.Straight.{straight_at}

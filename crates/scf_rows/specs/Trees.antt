@@ -2,7 +2,6 @@
 use Rattle.std.specs.Prelude.{ℕ, zero, ◌+◌, ◌*◌, ◌==◌, List, [], ◌∷◌, ◌++◌, length, map, Option, Some, None, ℤ, pos, if◌then◌else◌, codes}
 use Rattle.tree_model.specs.declared.type_tree.TypeTree.{TypeTree}
 use Rattle.tree_model.specs.declared.type_tree.TypeTree as type
-use Rattle.tree_model.specs.declared.attr_tree.AttrTree.{AttrTree}
 use Rattle.plain_tree.specs.Types.{Index}
 use Rattle.plain_tree.specs.Attrs.{Entries, PlainAttr, Numbers, entries_tree}
 use Rattle.pattern_model.specs.Drafts.{constant_value, predicate, sizes}

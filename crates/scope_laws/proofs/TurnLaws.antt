@@ -238,8 +238,6 @@ module _ (out : Bool) (R : ℕ → ℕ → Type 0) where
     where
       inside_some : (m k : ℕ) → ◌≡◌ {A = Option ℕ} (Some m) (Some k) → m ≡ k
       inside_some m k e = cc
-      below : length ts ≡ beyond → beyond < suc (length ts)
-      below n = omega arith
 
       below : length ts ≡ beyond → beyond < suc (length ts)
       below n = omega arith

@@ -1,5 +1,4 @@
 -- Turns in which each region that begins ends, and what looks across them find.
-use Rattle.std.specs.Prelude.{◌≡◌, ◌⊎◌, ◌<◌, ℕ, zero, suc, ◌+◌, ◌-◌, Bool, true, false, List, [], ◌∷◌, ◌++◌, length, map, Option, Some, is_some}
 use Rattle.std.specs.Prelude.{◌≡◌, ◌⊎◌, ℕ, zero, suc, ◌+◌, Bool, true, false, List, [], ◌∷◌, ◌++◌, length, map, Some, is_some}
 use Rattle.text_events.specs.declared.event.Event.{Event}
 use Rattle.text_scopes.specs.declared.steps.Step.{Step}

@@ -1,7 +1,5 @@
-use Rattle.std.proofs.Common.{◌≡◌, ◌+◌, ◌++◌, List, Some, drop, length, map, take}
-use Rattle.std.specs.Prelude.{option_map}
-use Rattle.scf_rows.specs.Table.{info_at}
-use Rattle.scf_rows.specs.Trees.{all_alone, case_trees, held_trees, old_values, stand_trees, tests_trees}
+use Rattle.std.proofs.Common.{◌≡◌, ◌+◌, ◌++◌, drop}
+use Rattle.scf_rows.specs.Trees.{case_trees}
 use Rattle.scf_rows.proofs.switches.push_cases.Given as goal
 
 abbrev pub invariant-each : goal.invariant-each
