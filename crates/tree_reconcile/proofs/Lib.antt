@@ -1,0 +1,12 @@
+pub mod Bools
+pub mod Layers
+pub mod SingleLaws
+pub mod PlanLaws
+pub mod UsedSteps
+pub mod TreeLaws
+pub mod LineLaws
+pub mod PairLaws
+pub mod PairTrees
+pub mod UsedLaws
+pub mod UsedTrees
+pub mod WholeLaws

@@ -1,0 +1,13 @@
+use Rattle.plain_tree.proofs.TypeOpens.{plain-Void}
+use Rattle.plain_tree.specs.Ops.{plain_op}
+use Rattle.tree_reconcile.specs.Views.{plan_at, singles_at}
+use Rattle.tree_reconcile.proofs.WholeLaws.{pairs_once}
+use Rattle.tree_reconcile.proofs.reconcile.pairs_at_once.Goals as goal
+
+pub returns : goal.returns
+returns c =
+    pairs_once c.args.f.now c.args.ops.now (singles_at c.args.casts.now) (plan_at c.in_ok-plan.plan) (plain_op c.in_ok-tree.tree)
+    c.requires.ops c.requires.plain c.requires.casts c.requires.order c.in_ok-plan.ensures.plan c.in_ok-tree.ensures
+
+pub plan_in-requires : goal.plan_in-requires
+plan_in-requires c = plain-Void

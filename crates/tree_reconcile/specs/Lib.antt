@@ -1,0 +1,4 @@
+pub mod Lines
+pub mod Plans
+pub mod Rounds
+pub mod Views
