@@ -1,0 +1,9 @@
+pub mod HomeLaws
+pub mod Layers
+pub mod Noting
+pub mod Paths
+pub mod Places
+pub mod Regions
+pub mod Searching
+pub mod Sites
+pub mod Stack
