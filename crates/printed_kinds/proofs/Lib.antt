@@ -1,0 +1,2 @@
+pub mod AliasKinds
+pub mod PartKinds
