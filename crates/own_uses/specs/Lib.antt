@@ -1,0 +1,4 @@
+pub mod Flat
+pub mod Own
+pub mod Ranks
+pub mod Views
