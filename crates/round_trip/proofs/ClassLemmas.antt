@@ -1,7 +1,6 @@
 -- What the operations of a printed text are.
-use Rattle.std.proofs.Common.{◌≡◌, ℕ, zero, suc, ◌+◌, Bool, true, false, List, [], ◌∷◌, ◌++◌, map, length, get_or, Option, Some, None, refl, sym, ap, ◌∙◌, subst, true≢false, arith, append_assoc, length-append}
+use Rattle.std.proofs.Common.{◌≡◌, ℕ, suc, ◌+◌, true, List, [], ◌∷◌, ◌++◌, map, length, get_or, Some, refl, sym, ap, ◌∙◌, subst, arith, append_assoc, length-append}
 use Rattle.std.specs.Prelude.{slice_get, if◌then◌else◌}
-use Rattle.std.proofs.lemmas.List.{map-append}
 use Rattle.line_grammar.specs.Grammar.{Reads, done, takes, opens, leaves}
 use Rattle.text_grammar.specs.declared.kinds.Kind.{Kind}
 use Rattle.text_grammar.specs.declared.kinds.Kind.TheVariants as kinds
@@ -11,9 +10,8 @@ use Rattle.text_grammar.specs.declared.words.Word.{Word}
 use Rattle.text_grammar.specs.Places.{fits_at}
 use Rattle.text_grammar.specs.Table.{Wanted, generic}
 use Rattle.text_events.specs.declared.event.Event.{Event}
-use Rattle.text_events.specs.Names.{name_of, names_from, names_of}
-use Rattle.text_events.specs.Source.{event_at, events_from, events_of, is_own, spelled_of, spelled_or}
-use Rattle.text_scopes.specs.declared.bodies.Class.{Class}
+use Rattle.text_events.specs.Names.{name_of, names_from}
+use Rattle.text_events.specs.Source.{events_from, is_own, spelled_of, spelled_or}
 use Rattle.text_scopes.specs.declared.bodies.Class.TheVariants.{Unknown}
 use Rattle.text_scopes.specs.Bodies.{class_in}
 use Rattle.text_events.specs.Spelling.{spelled}

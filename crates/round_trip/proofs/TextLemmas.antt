@@ -1,28 +1,20 @@
 -- The printed text of a module denotes it.
-use Rattle.std.proofs.Common.{◌≡◌, ℕ, true, List, [], map, None, Option, refl, sym, ap, ◌∙◌, subst}
+use Rattle.std.proofs.Common.{◌≡◌, ℕ, true, List, [], map, None, refl, sym, ap, ◌∙◌, subst}
 use Rattle.std.specs.Prelude.{codes}
-use Rattle.mlir_lex.specs.declared.LexFault.{LexFault}
 use Rattle.line_grammar.specs.Machine.{run}
-use Rattle.text_grammar.specs.declared.places.Place.{Place}
-use Rattle.text_grammar.specs.declared.words.Word.{Word}
 use Rattle.text_grammar.specs.Table.{generic}
 use Rattle.text_grammar.specs.Text.{start}
 use Rattle.text_grammar.specs.Steps.{kind_of}
 use Rattle.text_grammar.proofs.OnceLemmas.{cut_once}
-use Rattle.text_grammar.proofs.ReadLemmas.{form_only}
-use Rattle.plain_tree.specs.Ops.{PlainModule, module_tree, plain_module}
-use Rattle.text_events.specs.declared.event.Event.{Event}
+use Rattle.plain_tree.specs.Ops.{PlainModule, plain_module}
 use Rattle.text_events.specs.Names.{names_of}
 use Rattle.text_events.specs.Source.{events_of}
-use Rattle.text_types.specs.Spelling.{Spelling}
 use Rattle.text_scopes.specs.Bodies.{class_in, is_module}
-use Rattle.event_trees.specs.Wording.{Wording, wording_of}
+use Rattle.event_trees.specs.Wording.{wording_of}
 use Rattle.event_trees.specs.Modules.{denoted}
 use Rattle.text_refusals.specs.Classes.{classes_of, operation_class}
 use Rattle.text_refusals.specs.Spelling.{spelling_of}
-use Rattle.tree_reading.specs.Reading.{denoted_by}
 use Rattle.tree_reading.proofs.SeenSome.{SomeSeen, seen_some}
-use Rattle.printed_words.specs.Words.{PrintedWord, text_of, words_from}
 use Rattle.printed_modules.specs.ModuleWords.{is_known, module_words, places_of}
 use Rattle.printed_modules.proofs.ModuleLemmas.{modules_are_cut, modules_are_read, text_of_modules}
 use Rattle.printed_terms.specs.Told.{Told}
