@@ -1,16 +1,15 @@
 -- The line of a tree by its parts.
-use Rattle.std.proofs.Common.{◌≡◌, ◌==◌, ℕ, suc, Bool, true, false, List, [], ◌∷◌, length, map, refl, sym, ap, ◌∙◌}
-use Rattle.std.specs.Prelude.{◌||◌, not, codes}
+use Rattle.std.proofs.Common.{◌≡◌, ◌==◌, suc, List, [], ◌∷◌, length, map, refl, sym, ap, ◌∙◌}
+use Rattle.std.specs.Prelude.{codes}
 use Rattle.std.specs.Str.{bytes_eq}
 use Rattle.std.proofs.lemmas.Grind.{common_steps}
 use Rattle.std.proofs.Math.Dec.{eqb-suc-zero}
 use Rattle.tree_model.specs.declared.op_tree.OpTree.{OpTree, out-OpTree}
-use Rattle.plain_tree.specs.Attrs.{plain_entries}
-use Rattle.plain_tree.specs.Ops.{Op, Blocks, plain_op, plain_values, regions_in}
+use Rattle.plain_tree.specs.Ops.{Blocks, plain_op, plain_values, regions_in}
 use Rattle.conversion_model.specs.Conversion.{regions_of}
 use Rattle.tree_uses.specs.Edited.{op_from, plain_region}
 use Rattle.tree_uses.proofs.Layers.{op_plain_at}
-use Rattle.tree_reconcile.specs.Lines.{Line, has_no_regions, has_none_at, is_bare, is_bare_at, line_at, line_of}
+use Rattle.tree_reconcile.specs.Lines.{has_no_regions, has_none_at, is_bare, is_bare_at, line_at, line_of}
 
 pub line_at_is : (o : OpTree) → line_at o ≡ record { is_cast = bytes_eq (out-OpTree o).name (codes "builtin.unrealized_conversion_cast"); results = plain_values (out-OpTree o).results; operands = (out-OpTree o).operands }
 unfolding line_at op_from

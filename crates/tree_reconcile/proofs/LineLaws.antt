@@ -1,6 +1,6 @@
 -- What an edited tree's lines are, and the types of its values, where no cast has regions.
 use Rattle.std.proofs.Common.{◌≡◌, ℕ, ◌==◌, Bool, true, false, List, [], ◌∷◌, ◌++◌, map, refl, sym, ap, ◌∙◌, true≢false}
-use Rattle.std.specs.Prelude.{◌||◌, ◌&&◌, not, ⊤, if◌then◌else◌}
+use Rattle.std.specs.Prelude.{◌||◌, not, if◌then◌else◌}
 use Rattle.std.specs.List.{list_all, list_any}
 use Rattle.std.proofs.lemmas.List.{map-append}
 use Rattle.std.proofs.lemmas.List.Folds.{list_all-append}
@@ -10,12 +10,12 @@ use Rattle.plain_tree.specs.Values.{op_values, ops_values, regions_values, block
 use Rattle.conversion_model.specs.Conversion.{regions_of}
 use Rattle.conversion_model.specs.Promises.{BareOp, BareOps, BareRegions, BareBlocks}
 use Rattle.conversion_model.specs.Reconciled.{is_cast, results_of}
-use Rattle.conversion_model.specs.Uses.{op_uses, op_without, ops_uses, ops_without, regions_uses, regions_without, blocks_uses, blocks_without, operations}
+use Rattle.conversion_model.specs.Uses.{op_without, ops_uses, ops_without, regions_uses, regions_without, blocks_uses, blocks_without, operations}
 use Rattle.tree_uses.specs.Edited.{edited}
 use Rattle.tree_walk.specs.Walks.{op_list, ops_list, region_list, regions_list}
 use Rattle.tree_walk.proofs.WalkLayers.{operations_are}
 use Rattle.tree_reconcile.specs.Lines.{Line, has_no_regions, is_bare, line_of}
-use Rattle.tree_reconcile.proofs.Bools.{and_true, or_cases, or_false}
+use Rattle.tree_reconcile.proofs.Bools.{and_true, or_false}
 
 abbrev pub moved_line : (ℕ → ℕ) → Line → Line
 moved_line S l = record { is_cast = l.is_cast; results = l.results; operands = map S l.operands }

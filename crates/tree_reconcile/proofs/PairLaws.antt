@@ -1,14 +1,13 @@
 -- One pass finds the pairs that the definition finds step by step, where casts are in order.
-use Rattle.std.proofs.Common.{◌≡◌, ℕ, zero, suc, ◌≤◌, ◌==◌, Bool, true, false, List, [], ◌∷◌, ◌++◌, length, map, Option, Some, None, refl, sym, ap, subst, ◌∙◌, arith, true≢false}
+use Rattle.std.proofs.Common.{◌≡◌, ℕ, zero, suc, ◌≤◌, ◌==◌, Bool, true, false, List, [], ◌∷◌, ◌++◌, length, map, Option, Some, None, refl, sym, ap, subst, ◌∙◌, arith}
 use Rattle.std.specs.Prelude.{◌||◌, ◌&&◌, not, ⊤, if◌then◌else◌}
-use Rattle.std.specs.List.{list_any}
 use Rattle.std.proofs.lemmas.Bool.{eqb-true}
 use Rattle.std.proofs.lemmas.List.{append_assoc}
 use Rattle.std.proofs.lemmas.List.Folds.{list_any-append}
 use Rattle.plain_tree.specs.Types.{PlainType, same_type}
 use Rattle.conversion_model.specs.Uses.{replaced}
 use Rattle.conversion_model.specs.Reconciled.{Cast, first_pair, pair_or, stands_for, undoes}
-use Rattle.tree_reconcile.specs.Plans.{Plan, Single, at_start, cast_by, casts_by, has_result, is_in_order, planned, undone_by, with_cast, with_casts}
+use Rattle.tree_reconcile.specs.Plans.{Plan, Single, at_start, cast_by, casts_by, has_result, is_in_order, planned, undone_by, with_casts}
 use Rattle.tree_reconcile.proofs.Bools.{and_true, both_true, by_cases, clash, not_false, not_true, or_false, same_number, turned}
 
 -- The definition's steps, over casts of one operand and one result alone

@@ -1,5 +1,5 @@
 -- What one pass over the casts finds is what the definition leaves out of a tree step by step.
-use Rattle.std.proofs.Common.{◌≡◌, ℕ, zero, suc, ◌≤◌, ◌==◌, Bool, true, false, List, [], ◌∷◌, ◌++◌, length, map, Option, Some, None, refl, sym, ap, subst, ◌∙◌, arith, true≢false}
+use Rattle.std.proofs.Common.{◌≡◌, ℕ, zero, suc, ◌≤◌, ◌==◌, Bool, true, false, List, [], ◌∷◌, ◌++◌, length, map, Option, Some, None, refl, sym, ap, subst, ◌∙◌, true≢false}
 use Rattle.std.specs.Prelude.{◌||◌, ◌&&◌, not, codes, if◌then◌else◌}
 use Rattle.std.specs.List.{list_any}
 use Rattle.std.specs.Str.{bytes_eq}
@@ -7,17 +7,17 @@ use Rattle.std.proofs.Math.Path.{fun_ext}
 use Rattle.std.proofs.lemmas.Bool.{eqb-true}
 use Rattle.plain_tree.specs.Types.{PlainType, same_type}
 use Rattle.plain_tree.specs.Ops.{Op, op, Values}
-use Rattle.plain_tree.specs.Values.{op_values, type_in, types_of}
+use Rattle.plain_tree.specs.Values.{types_of}
 use Rattle.conversion_model.specs.Promises.{BareOp}
-use Rattle.conversion_model.specs.Uses.{op_uses, op_without, operations, replaced}
+use Rattle.conversion_model.specs.Uses.{operations, replaced}
 use Rattle.conversion_model.specs.Reconciled.{Cast, cast_in, casts_in, first_pair, is_cast, is_cast_of, pair_of, pair_or, pairs_left_out, stands_for, undoes, without_pair}
 use Rattle.conversion_model.proofs.Sizes.{op_any_listed, op_inside}
 use Rattle.tree_uses.specs.Edited.{edited}
 use Rattle.tree_reconcile.specs.Lines.{Line, line_of}
-use Rattle.tree_reconcile.specs.Plans.{Plan, Single, at_start, cast_by, casts_by, has_result, is_gone, is_in_order, single_in, single_of, singles, with_casts}
+use Rattle.tree_reconcile.specs.Plans.{Single, at_start, cast_by, casts_by, is_gone, is_in_order, single_in, single_of, singles, with_casts}
 use Rattle.tree_reconcile.proofs.Bools.{and_true, any_none, by_cases, clash, not_true, or_cases, or_false, turned}
-use Rattle.tree_reconcile.proofs.LineLaws.{Spares, kept_lines, lines, lines_kept, lines_listed, moved_line, test_of, type_kept}
-use Rattle.tree_reconcile.proofs.PairLaws.{all_moved, all_planned, first_of, gone_by, moved, moves, pairs_by, pairs_in, ready_at_start, same_singles, stepped, without_result}
+use Rattle.tree_reconcile.proofs.LineLaws.{Spares, kept_lines, lines, lines_kept, lines_listed, test_of, type_kept}
+use Rattle.tree_reconcile.proofs.PairLaws.{all_moved, all_planned, first_of, gone_by, moved, moves, pairs_by, pairs_in, ready_at_start, stepped, without_result}
 use Rattle.tree_reconcile.proofs.TreeLaws.{op_twice, op_whole}
 
 -- Casts of the definition by lines

@@ -1,5 +1,5 @@
 -- One cast more.
-use Rattle.std.proofs.Common.{◌≡◌, ℕ, Option, sym, ap, ◌∙◌}
+use Rattle.std.proofs.Common.{◌≡◌, ℕ, Option, ap, ◌∙◌}
 use Rattle.plain_tree.specs.Types.{PlainType}
 use Rattle.tree_reconcile.specs.Plans.{Plan, Single, planned, undone_by, with_cast}
 

@@ -1,10 +1,10 @@
 -- Casts of one operand and one result, by parts.
-use Rattle.std.proofs.Common.{◌≡◌, ℕ, Bool, true, false, List, [], ◌∷◌, ◌++◌, refl, sym, ap, ◌∙◌, length, get_or, arith, true≢false}
+use Rattle.std.proofs.Common.{◌≡◌, ℕ, true, false, List, [], ◌∷◌, ◌++◌, refl, sym, ap, ◌∙◌, length, get_or, arith}
 use Rattle.std.proofs.lemmas.Grind.{common_steps}
 use Rattle.std.proofs.lemmas.List.{append_assoc}
-use Rattle.plain_tree.specs.Types.{PlainType, plain_type}
+use Rattle.plain_tree.specs.Types.{plain_type}
 use Rattle.tree_model.specs.declared.type_tree.TypeTree.{TypeTree}
-use Rattle.plain_tree.specs.Ops.{Values, plain_values}
+use Rattle.plain_tree.specs.Ops.{plain_values}
 use Rattle.tree_reconcile.proofs.Layers.{line_at_is}
 use Rattle.tree_reconcile.specs.Lines.{Line}
 use Rattle.tree_reconcile.specs.Plans.{Single, single_in, single_of, singles}

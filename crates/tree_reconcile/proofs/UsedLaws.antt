@@ -1,13 +1,12 @@
 -- The values that are used in the end: one pass over the lines from the last to the first finds them.
-use Rattle.std.proofs.Common.{◌≡◌, ℕ, zero, suc, ◌≤◌, ◌==◌, Bool, true, false, List, [], ◌∷◌, ◌++◌, length, map, refl, sym, ap, subst, ◌∙◌, arith, true≢false}
+use Rattle.std.proofs.Common.{◌≡◌, ℕ, ◌==◌, Bool, true, false, List, [], ◌∷◌, refl, sym, ap, subst, ◌∙◌, true≢false}
 use Rattle.std.specs.Prelude.{◌||◌, ◌&&◌, not, if◌then◌else◌}
 use Rattle.std.specs.List.{list_all, list_any}
 use Rattle.std.proofs.lemmas.Bool.{eqb-true}
 use Rattle.plain_tree.specs.Types.{PlainType}
 use Rattle.plain_tree.specs.Ops.{Values}
-use Rattle.tree_reconcile.specs.Lines.{Line, among, any_used, is_forward, is_result, is_unused, used_by_others, uses, with_line, with_lines}
-use Rattle.tree_reconcile.proofs.Bools.{and_true, any_more, both_true, by_cases, clash, not_false, not_true, or_cases, or_false, or_left, or_right, same_number}
-use Rattle.tree_reconcile.proofs.LineLaws.{kept_lines, moved_line}
+use Rattle.tree_reconcile.specs.Lines.{Line, among, any_used, is_forward, is_result, is_unused, used_by_others, with_line, with_lines}
+use Rattle.tree_reconcile.proofs.Bools.{and_true, any_more, both_true, by_cases, clash, not_false, not_true, or_cases, or_left, or_right, same_number}
 
 -- whether a line for which the test doesn't hold has the value among its operands
 abbrev pub uses_kept : (Line → Bool) → List Line → ℕ → Bool

@@ -1,14 +1,14 @@
 -- The rounds of the definition leave out just the casts that are unused in the end.
-use Rattle.std.proofs.Common.{◌≡◌, ℕ, zero, suc, ◌≤◌, ◌==◌, Bool, true, false, List, [], ◌∷◌, ◌++◌, length, map, refl, sym, ap, subst, ◌∙◌, arith, true≢false}
+use Rattle.std.proofs.Common.{◌≡◌, ℕ, zero, suc, ◌≤◌, Bool, true, false, List, [], ◌∷◌, length, map, refl, sym, ap, ◌∙◌, arith, true≢false}
 use Rattle.std.specs.Prelude.{◌||◌, ◌&&◌, not, if◌then◌else◌}
-use Rattle.std.specs.List.{list_all, list_any}
+use Rattle.std.specs.List.{list_any}
 use Rattle.std.proofs.Math.Path.{fun_ext}
 use Rattle.plain_tree.specs.Types.{PlainType}
-use Rattle.plain_tree.specs.Ops.{Op, op, Values}
+use Rattle.plain_tree.specs.Ops.{Op, op}
 use Rattle.conversion_model.specs.Promises.{BareOp}
 use Rattle.conversion_model.specs.Targets.{operands_of}
-use Rattle.conversion_model.specs.Uses.{op_uses, op_without, operations}
-use Rattle.conversion_model.specs.Reconciled.{is_cast, is_unused_cast, is_used, results_of, unused_left_out}
+use Rattle.conversion_model.specs.Uses.{op_without, operations}
+use Rattle.conversion_model.specs.Reconciled.{is_cast, is_unused_cast, is_used, unused_left_out}
 use Rattle.conversion_model.proofs.Sizes.{op_any_listed, op_inside}
 use Rattle.tree_uses.specs.Edited.{edited}
 use Rattle.tree_reconcile.specs.Lines.{Line, among, any_used, is_forward, is_result, is_unused, line_of, used_by_others, uses}

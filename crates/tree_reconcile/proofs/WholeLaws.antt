@@ -1,12 +1,11 @@
 -- What the calls over trees come to.
-use Rattle.std.proofs.Common.{◌≡◌, ℕ, zero, suc, ◌-◌, ◌+◌, ◌≤◌, ◌<◌, ◌==◌, Bool, true, false, List, [], ◌∷◌, ◌++◌, length, map, Option, Some, None, refl, sym, ap, subst, ◌∙◌, arith, true≢false}
+use Rattle.std.proofs.Common.{◌≡◌, ℕ, zero, suc, ◌-◌, ◌+◌, ◌≤◌, ◌<◌, ◌==◌, Bool, true, false, List, [], ◌∷◌, ◌++◌, length, map, Option, Some, None, refl, sym, ap, subst, ◌∙◌, arith}
 use Rattle.std.specs.Prelude.{◌||◌, ◌&&◌, not, if◌then◌else◌}
 use Rattle.std.specs.Borrow.{Bor}
 use Rattle.std.specs.List.{list_all, list_any}
 use Rattle.std.specs.Option.{option_map}
 use Rattle.std.proofs.Math.Path.{fun_ext}
 use Rattle.tree_model.specs.declared.op_tree.OpTree.{OpTree}
-use Rattle.plain_tree.specs.Types.{PlainType}
 use Rattle.plain_tree.specs.Ops.{Op, Values, plain_op}
 use Rattle.plain_tree.specs.Values.{types_of}
 use Rattle.conversion_model.specs.Promises.{BareOp}
@@ -14,7 +13,7 @@ use Rattle.conversion_model.specs.Uses.{op_without, operations, replaced}
 use Rattle.conversion_model.specs.Reconciled.{Cast, first_pair, is_cast, is_cast_of, is_unused_cast, is_used, pair_of, pairs_left_out, reconciled, unused_left_out, without_pair}
 use Rattle.conversion_model.proofs.ReconcileLaws.{listed_size, pairs_no_more}
 use Rattle.tree_uses.specs.Edited.{edited}
-use Rattle.tree_walk.specs.Walks.{op_list, plain_ops}
+use Rattle.tree_walk.specs.Walks.{plain_ops}
 use Rattle.tree_walk.proofs.WalkLayers.{operations_are}
 use Rattle.tree_reconcile.specs.Lines.{Line, is_bare, is_bare_at, is_forward, is_unused, line_at, line_of, lines_at, used_by_others, uses, with_lines}
 use Rattle.tree_reconcile.specs.Plans.{Plan, Single, at_start, casts_by, is_gone, is_in_order, single_in, single_of, singles, with_casts}

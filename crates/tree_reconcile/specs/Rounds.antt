@@ -1,5 +1,5 @@
 -- One round of the second half.
-use Rattle.std.specs.Prelude.{ℕ, Bool, true, false, List, Option, Some, None, if◌then◌else◌}
+use Rattle.std.specs.Prelude.{Bool, Option, Some, None, if◌then◌else◌}
 use Rattle.std.specs.List.{list_any}
 use Rattle.plain_tree.specs.Ops.{Op}
 use Rattle.conversion_model.specs.Uses.{op_without, operations}

@@ -1,6 +1,5 @@
 -- What tables and lists of the code stand for.
 use Rattle.std.specs.Prelude.{ℕ, nat_eq, Bool, List, map}
-use Rattle.std.specs.Borrow.{Bor}
 use Rattle.std.specs.HashMap.{get}
 use Rattle.std.specs.HashSet.{HashSet, contains}
 use Rattle.plain_tree.specs.Types.{plain_type}

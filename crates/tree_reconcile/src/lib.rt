@@ -1,6 +1,7 @@
 //! Reconciliation of a tree: casts that undo each other are left out, and so are casts without uses.
 #![tactic(auto)]
 
+mod laws;
 mod lines;
 mod omitted;
 mod plan;
@@ -9,4 +10,5 @@ mod singles;
 mod steps;
 mod used;
 
+pub use laws::{law_chain, law_two_casts};
 pub use reconcile::reconciled;

@@ -1,6 +1,5 @@
 use Rattle.std.proofs.Common.{◌∙◌, ap, length, sym}
 use Rattle.plain_tree.specs.Ops.{plain_op}
-use Rattle.conversion_model.specs.Uses.{operations}
 use Rattle.tree_reconcile.proofs.WholeLaws.{room_enough, seen_length, whole_is}
 use Rattle.tree_reconcile.proofs.reconcile.reconciled.Goals as goal
 

@@ -1,5 +1,4 @@
-use Rattle.std.proofs.Common.{◌≡◌, ◌∙◌, ap, arith}
-use Rattle.plain_tree.specs.Types.{plain_type}
+use Rattle.std.proofs.Common.{◌∙◌, ap, arith}
 use Rattle.tree_reconcile.specs.Plans.{single_of}
 use Rattle.std.specs.Prelude.{true}
 use Rattle.tree_reconcile.proofs.SingleLaws.{not_one, one_only}

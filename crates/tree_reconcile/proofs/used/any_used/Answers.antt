@@ -1,4 +1,4 @@
-use Rattle.std.proofs.Common.{◌≡◌, sym, ap, ◌∙◌}
+use Rattle.std.proofs.Common.{sym, ap, ◌∙◌}
 use Rattle.std.specs.List.{list_any}
 use Rattle.tree_reconcile.specs.Views.{holds}
 use Rattle.tree_reconcile.proofs.UsedSteps.{results_any}
