@@ -9,11 +9,11 @@ use Rattle.conversion_model.specs.Rows.{Pattern}
 use Rattle.conversion_model.specs.Chosen.{Leaves, Ranked, by_first, chosen_within, depth, goes_before, has_root, in_order, itself, or_else, order, pattern_depth, put_in, ranked}
 use Rattle.choice_code.specs.Choosing.{by_places, by_row_at, chosen_by}
 
-abbrev place_of : Ranked → ℕ
+abbrev pub place_of : Ranked → ℕ
 place_of r = r.place
 
 -- at the place of each pattern stands that pattern
-abbrev AllAt : List Pattern → List Ranked → Type 0
+abbrev pub AllAt : List Pattern → List Ranked → Type 0
 AllAt table [] = Unit {0}
 AllAt table (r ∷ rs) = (slice_get table r.place ≡ Some r.pattern) × AllAt table rs
 
@@ -41,7 +41,7 @@ order_at table d name k (p ∷ ps) h =
     root_at table (has_root name p) (ranked_one d k p) (ranked d name (k + 1) ps) (ap (slice_get table) here ∙ h 0)
     (order_at table d name (k + 1) ps (λ j. ap (slice_get table) (on j) ∙ h (suc j)))
 
-all_at : (target : Target) (table : List Pattern) (name : List ℕ) → AllAt table (order target table name)
+pub all_at : (target : Target) (table : List Pattern) (name : List ℕ) → AllAt table (order target table name)
 all_at target table name =
     let here : (j : ℕ) → 0 + j ≡ j = λ j. omega arith in
     order_at table (pattern_depth (depth target table)) name 0 table (λ j. ap (slice_get table) (here j))
@@ -74,3 +74,9 @@ pub chosen_is : (bits : ℕ) (target : Target) (table : List Pattern) (places : 
     → found ≡ chosen_by bits target table places room [] o → found ≡ chosen_within bits target (order target table) (length table + 1) [] o
 chosen_is bits target table places room o found h r f =
     f ∙ ap (λ n. chosen_by bits target table places n [] o) r ∙ chosen_same bits target table places h (length table + 1) [] o
+
+-- and so are the leaves on each path
+pub leaves_are : (bits : ℕ) (target : Target) (table : List Pattern) (places : List ℕ → List ℕ) (room : ℕ) → ((name : List ℕ) → places name ≡ map place_of (order target table name)) → room ≡ length table + 1
+    → chosen_by bits target table places room ≡ chosen_within bits target (order target table) (length table + 1)
+leaves_are bits target table places room h r =
+    ap (λ n. chosen_by bits target table places n) r ∙ fun_ext (λ p. fun_ext (chosen_same bits target table places h (length table + 1) p))

@@ -30,7 +30,8 @@ pub struct Pass<'a, R: Rows> {
     pub bits: u32,
 }
 
-fn is_converted(infos: &[PatternInfo], place: u32) -> bool
+/// Whether the pattern at a place takes operands and results in their converted types.
+pub fn is_converted(infos: &[PatternInfo], place: u32) -> bool
     ensures { result ≡ converted_in infos.now place }
 {
     match infos.get(place as usize) {
@@ -50,7 +51,7 @@ fn with_place(alloc: Global, place: u32, path: &[u32]) -> Result<Vec<u32>, NoMem
 
 /// The leaves of the chosen derivation of at most so many levels, by patterns that are not on the path.
 #[cycle(choose)]
-fn chosen_within<R: Rows>(
+pub(crate) fn chosen_within<R: Rows>(
     alloc: Global,
     pass: &Pass<'_, R>,
     room: u32,
@@ -93,7 +94,7 @@ fn first_of<R: Rows>(
 
 /// By the pattern at a place.
 #[cycle(choose)]
-fn by_pattern<R: Rows>(
+pub(crate) fn by_pattern<R: Rows>(
     alloc: Global,
     pass: &Pass<'_, R>,
     room: u32,
@@ -147,7 +148,7 @@ fn by_template<R: Rows>(
 
 /// The leaves of each product in order, as far as all are legalised.
 #[cycle(choose)]
-fn products<R: Rows>(
+pub(crate) fn products<R: Rows>(
     alloc: Global,
     pass: &Pass<'_, R>,
     room: u32,
@@ -187,7 +188,8 @@ fn product<R: Rows>(
     }
 }
 
-fn levels(infos: &[PatternInfo]) -> Result<u32, NoMemory>
+/// How many levels a derivation has at most.
+pub(crate) fn levels(infos: &[PatternInfo]) -> Result<u32, NoMemory>
     ensures { IfOk result (λ n. n ≡ length infos.now + 1) }
 {
     match u32::try_from(infos.len()) {

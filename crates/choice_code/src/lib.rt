@@ -7,5 +7,9 @@ mod draft;
 mod given;
 mod moves;
 mod own;
+mod paths;
 
-pub use derivation::{Pass, chosen};
+pub use casts::{cast_step, type_changes};
+pub use derivation::{Pass, chosen, is_converted};
+pub use draft::{Draft, copy_types};
+pub use paths::{leaves_on, products_on, row_leaves};
