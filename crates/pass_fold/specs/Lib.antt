@@ -1,0 +1,4 @@
+pub mod Makes
+pub mod Views
+pub mod Steps
+pub mod Whole
