@@ -1,0 +1,5 @@
+pub mod Below
+pub mod Front
+pub mod Numbers
+pub mod Verdicts
+pub mod Least

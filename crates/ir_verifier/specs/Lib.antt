@@ -1,0 +1,4 @@
+pub mod Telling
+pub mod Sooner
+pub mod Numbering
+pub mod Promises
