@@ -1,0 +1,71 @@
+//! Trees of parts.
+#![tactic(auto, using(tree_uses::proofs::Layers::makers))]
+
+ghost use Rattle.std.specs.Prelude.{◌≡◌, [], map};
+ghost use Rattle.plain_tree.specs.Attrs.{plain_entries};
+ghost use Rattle.plain_tree.specs.Ops.{op, end_of_regions, plain_op, plain_values, blocks_in, ops_in};
+ghost use Rattle.tree_uses.specs.Edited.{op_from, plain_block, plain_region};
+
+use sqlite_items::Items;
+use std::alloc::Global;
+use tree_model::{
+    BlockList, BlockTree, DictTree, IdList, Name, OpList, OpTree, RegionList, RegionTree, ValueList,
+};
+
+/// An operation of these parts.
+pub(crate) fn operation(
+    name: Name,
+    props: DictTree,
+    attrs: DictTree,
+    results: ValueList,
+    operands: IdList,
+    regions: RegionList,
+    successors: IdList,
+) -> OpTree
+    ensures { plain_op result ≡ op_from name (plain_entries props) (plain_entries attrs) (plain_values results) operands (map plain_region regions) successors }
+{
+    OpTree {
+        name,
+        results,
+        operands,
+        props,
+        attrs,
+        regions,
+        successors,
+    }
+}
+
+/// An operation without attributes, regions and successors.
+#[tactic(auto, unfolding(tree_uses::specs::Edited::op_from))]
+pub(crate) fn small_operation(
+    alloc: Global,
+    name: Name,
+    results: ValueList,
+    operands: IdList,
+) -> OpTree
+    ensures { plain_op result ≡ op (record { name = name; props = []; attrs = [] }) (plain_values results) operands end_of_regions [] }
+{
+    operation(
+        name,
+        Items::new(alloc),
+        Items::new(alloc),
+        results,
+        operands,
+        Items::new(alloc),
+        Items::new(alloc),
+    )
+}
+
+/// A block of these parts.
+pub(crate) fn block_of(label: u32, args: ValueList, ops: OpList) -> BlockTree
+    ensures { plain_block result ≡ record { label = label; args = plain_values args; ops = ops_in (map plain_op ops) } }
+{
+    BlockTree { label, args, ops }
+}
+
+/// A region of these blocks.
+pub(crate) fn region_of(blocks: BlockList) -> RegionTree
+    ensures { plain_region result ≡ blocks_in (map plain_block blocks) }
+{
+    RegionTree { blocks }
+}
