@@ -72,7 +72,7 @@ ops_written h block xs change s l k b = let n : BlockNode = record (block_at h b
   | inr d ↦ rw (ne_eqb b block d, get_or-set_other h.blocks block b n no_block d) refl
 ]
 
-args_written : (h : Flat) (block : ℕ) (xs : List ℕ) (b : ℕ) → block < length h.blocks → (block_at (with_ops h block xs) b).args ≡ (block_at h b).args
+pub args_written : (h : Flat) (block : ℕ) (xs : List ℕ) (b : ℕ) → block < length h.blocks → (block_at (with_ops h block xs) b).args ≡ (block_at h b).args
 args_written h block xs b l = let n : BlockNode = record (block_at h block) { ops = xs } in elim (cases_eq b block) [
   | inl p ↦ subst (λ (x : ℕ). (block_at (with_ops h block xs) x).args ≡ (block_at h x).args) (sym p) (ap (λ (m : BlockNode). m.args) (get_or-set_same h.blocks block n no_block l))
   | inr d ↦ ap (λ (m : BlockNode). m.args) (get_or-set_other h.blocks block b n no_block d)

@@ -1,2 +1,5 @@
 pub mod EffectLaws
 pub mod UseLaws
+pub mod MoveLaws
+pub mod InlineLaws
+pub mod ShownLaws

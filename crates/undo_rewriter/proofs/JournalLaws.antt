@@ -3,7 +3,7 @@ use Rattle.std.proofs.Common.{◌≡◌, ℕ, zero, suc, ◌<◌, ◌≤◌, ◌
 use Rattle.std.proofs.lemmas.List.{length_push, drop_all, take-append-le, take_all, take-take}
 use Rattle.flat_model.specs.Flat.{Flat, IsClosed}
 use Rattle.undo_rewriter.specs.declared.step.Step.{Step}
-use Rattle.undo_rewriter.specs.declared.step.Step.TheVariants.{Begin, OpAdded, OpListed, OpUnlisted, OperandSet, ValueAdded, BlockAdded, ArgsSet, BlocksSet, Replaced}
+use Rattle.undo_rewriter.specs.declared.step.Step.TheVariants.{Begin, OpAdded, OpListed, OpUnlisted, OperandSet, ValueAdded, BlockAdded, ArgsSet, BlocksSet, NodeSet, BlockCut, BlocksListed, Replaced}
 use Rattle.edit_model.specs.Rooms.{IsRoomier}
 use Rattle.undo_rewriter.specs.Journal.{undone, rooms_before, back, rooms_back, at_mark, edits, IsPossible, CanUndo, IsSound, Edited, KeepsMarks}
 
@@ -53,6 +53,9 @@ possible_more a b r (ValueAdded values) f p = tt
 possible_more a b r (BlockAdded blocks) f p = tt
 possible_more a b r (ArgsSet block args) f p = p
 possible_more a b r (BlocksSet region blocks) f p = p
+possible_more a b r (NodeSet op node) f p = p
+possible_more a b r (BlockCut block end) f p = (p.0, p.1, let m = r.room block in let q = p.2 in omega arith)
+possible_more a b r (BlocksListed region at count) f p = p
 possible_more a b r (Replaced c) f p = tt
 
 roomier_refl : (a : List ℕ) → IsRoomier a a
@@ -88,6 +91,9 @@ roomier_before (ValueAdded values) a b r = r
 roomier_before (BlockAdded blocks) a b r = roomier_take blocks a b r
 roomier_before (ArgsSet block args) a b r = r
 roomier_before (BlocksSet region blocks) a b r = r
+roomier_before (NodeSet op node) a b r = r
+roomier_before (BlockCut block end) a b r = roomier_take end a b r
+roomier_before (BlocksListed region at count) a b r = r
 roomier_before (Replaced c) a b r = roomier_refl c.rooms
 
 roomier_back : (us : List Step) (a b : List ℕ) → IsRoomier a b → IsRoomier (rooms_back us a) (rooms_back us b)
@@ -158,6 +164,9 @@ edits_push (ValueAdded a ∷ us) u = edits_push us u
 edits_push (BlockAdded a ∷ us) u = edits_push us u
 edits_push (ArgsSet a b ∷ us) u = edits_push us u
 edits_push (BlocksSet a b ∷ us) u = edits_push us u
+edits_push (NodeSet a b ∷ us) u = edits_push us u
+edits_push (BlockCut a b ∷ us) u = edits_push us u
+edits_push (BlocksListed a b c ∷ us) u = edits_push us u
 edits_push (Replaced a ∷ us) u = let e = edits_push us u in omega arith
 
 -- one step fewer behind a mark

@@ -3,3 +3,4 @@ pub mod StepLaws
 pub mod WriterLaws
 pub mod LastLaws
 pub mod NewOpLaws
+pub mod CutLaws

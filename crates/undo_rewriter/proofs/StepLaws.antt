@@ -1,14 +1,15 @@
 -- What each step's undoing gives.
 use Rattle.std.proofs.Common.{◌≡◌, ℕ, suc, ◌<◌, ◌≤◌, ◌+◌, ◌-◌, List, [], ◌∷◌, ◌++◌, length, get_or, set, take, drop, refl, sym, ap, ◌∙◌, arith}
 use Rattle.std.specs.Prelude.{insert, remove}
-use Rattle.std.proofs.lemmas.List.{length_push, take_at, drop_at, length-take-le, set-set, set-get_or, get_or-set_same, drop_more, take-append-drop, drop-drop}
+use Rattle.std.proofs.lemmas.List.{length_push, take_at, drop_at, length-take-le, set-set, set-get_or, get_or-set_same, drop_more, take-append-drop, drop-drop, get_or_append_left, get_or_push, set-append_left, length-set, append_assoc, length-append}
 use Rattle.key_model.specs.declared.handle.Handle.{Handle}
 use Rattle.flat_model.specs.declared.nodes.OpNode.{OpNode}
 use Rattle.flat_model.specs.Flat.{BlockNode, Flat, no_op, no_block, op_at, block_at, blocks_at}
-use Rattle.undo_rewriter.specs.declared.step.Step.TheVariants.{OpAdded, OpListed, OpUnlisted, OperandSet, ValueAdded, BlockAdded, ArgsSet, BlocksSet}
+use Rattle.undo_rewriter.specs.declared.step.Step.TheVariants.{OpAdded, OpListed, OpUnlisted, OperandSet, ValueAdded, BlockAdded, ArgsSet, BlocksSet, NodeSet, BlockCut, BlocksListed}
 use Rattle.std.specs.Prelude.{Vec}
 use Rattle.std.specs.declared.alloc.Global.{Global}
-use Rattle.edit_model.specs.Writes.{with_ops, with_operand, with_op, with_args, with_block, with_blocks, with_value}
+use Rattle.edit_model.specs.Writes.{with_ops, with_operand, with_op, with_args, with_block, with_blocks, with_node, with_value}
+use Rattle.edit_effects.specs.Cuts.{with_cut}
 use Rattle.undo_rewriter.specs.Journal.{undone}
 
 drop-one : (k : ℕ) (xs : List ℕ) → drop 1 (drop k xs) ≡ drop (suc k) xs
@@ -94,4 +95,35 @@ pub blocks_back : (f : Flat) (region : ℕ) (blocks : List ℕ) (was : Vec ℕ G
 blocks_back f region blocks was e =
     ap (λ rs. record f { regions = rs }) (set-set f.regions region blocks was.items)
     ∙ ap (λ xs. record f { regions = set f.regions region xs }) e
+    ∙ ap (λ rs. record f { regions = rs }) (set-get_or f.regions region [])
+
+pub node_back : (f : Flat) (op : ℕ) (node : OpNode) → undone (NodeSet op (op_at f op)) (with_node f op node) ≡ f
+node_back f op node = ap (λ os. record f { ops = os }) (set-set f.ops op node (op_at f op) ∙ set-get_or f.ops op no_op)
+
+pub cut_back : (f : Flat) (block at : ℕ) → block < length f.blocks → undone (BlockCut block (length f.blocks)) (with_cut f block at) ≡ f
+cut_back f block at l = let bs = f.blocks in let n = length bs in let xs = (block_at f block).ops in
+    let front : BlockNode = record (block_at f block) { ops = take at xs } in let end : BlockNode = record { args = []; ops = drop at xs } in
+    let cs = set bs block front in let m : length cs ≡ n = length-set bs block front in let inside : block < length cs = omega (arith, m) in
+    ap (λ (b : BlockNode). record f { blocks = take n (set (cs ++ end ∷ []) block (record b { ops = b.ops ++ (get_or (cs ++ end ∷ []) n no_block).ops })) })
+    (get_or_append_left cs (end ∷ []) no_block block inside ∙ get_or-set_same bs block front no_block l)
+    ∙ ap (λ (e : BlockNode). record f { blocks = take n (set (cs ++ end ∷ []) block (record (block_at f block) { ops = take at xs ++ e.ops })) }) (get_or_push cs end no_block n m)
+    ∙ ap (λ ys. record f { blocks = take n (set (cs ++ end ∷ []) block (record (block_at f block) { ops = ys })) }) (take-append-drop at xs)
+    ∙ ap (λ ys. record f { blocks = take n ys }) (set-append_left cs (end ∷ []) block (block_at f block) inside)
+    ∙ ap (λ ys. record f { blocks = ys }) (take_at (set cs block (block_at f block)) (end ∷ []) n (length-set cs block (block_at f block) ∙ m)
+    ∙ set-set bs block front (block_at f block) ∙ set-get_or bs block no_block)
+
+-- what is put in is taken out again
+put_back : (xs more : List ℕ) (at : ℕ) → at ≤ length xs → let ys = take at xs ++ more ++ drop at xs in take at ys ++ drop (at + length more) ys ≡ xs
+put_back xs more at h = let l : length (take at xs) ≡ at = length-take-le at xs h in let ys = take at xs ++ more ++ drop at xs in
+    ap (λ zs. zs ++ drop (at + length more) ys) (ap (take at) (append_assoc (take at xs) more (drop at xs)) ∙ take_at (take at xs) (more ++ drop at xs) at l)
+    ∙ ap (λ zs. take at xs ++ zs) (drop_at (take at xs ++ more) (drop at xs) (at + length more) (omega (arith, l, length-append (take at xs) more)))
+    ∙ take-append-drop at xs
+
+pub put_blocks_back : (f : Flat) (region at count : ℕ) (more : List ℕ) → region < length f.regions → at ≤ length (blocks_at f region) → count ≡ length more
+    → undone (BlocksListed region at count) (with_blocks f region (take at (blocks_at f region) ++ more ++ drop at (blocks_at f region))) ≡ f
+put_blocks_back f region at count more l h e = let bs = blocks_at f region in let ys = take at bs ++ more ++ drop at bs in
+    ap (λ zs. record f { regions = set (set f.regions region ys) region (take at zs ++ drop (at + count) zs) }) (get_or-set_same f.regions region ys [] l)
+    ∙ ap (λ rs. record f { regions = rs }) (set-set f.regions region ys (take at ys ++ drop (at + count) ys))
+    ∙ ap (λ n. record f { regions = set f.regions region (take at ys ++ drop (at + n) ys) }) e
+    ∙ ap (λ zs. record f { regions = set f.regions region zs }) (put_back bs more at h)
     ∙ ap (λ rs. record f { regions = rs }) (set-get_or f.regions region [])

@@ -2,20 +2,22 @@
 use Rattle.std.proofs.Common.{◌≡◌, ℕ, suc, ◌<◌, ◌≤◌, ◌+◌, ◌-◌, List, [], ◌∷◌, ◌++◌, length, get_or, set, take, drop, sym, ap, subst, ◌∙◌, arith}
 use Rattle.std.specs.Prelude.{insert, remove}
 use Rattle.std.proofs.lemmas.Grind.{common_steps}
-use Rattle.std.proofs.lemmas.List.{length_push, length-append, length-set, get_or-set_same, get_or_at, length-take-le, length-drop, take-take}
+use Rattle.std.proofs.lemmas.List.{length_push, length-append, length-set, get_or-set_same, get_or_at, length-take-le, length-drop, take-take, get_or_append_left, get_or_push, get_or-take, take-append-drop}
 use Rattle.key_model.specs.declared.handle.Handle.{Handle}
+use Rattle.flat_model.specs.declared.nodes.NamedAttr.{NamedAttr}
 use Rattle.flat_model.specs.declared.nodes.OpNode.{OpNode}
-use Rattle.flat_model.specs.Flat.{BlockNode, Flat, no_op, no_block, op_at, block_at, blocks_at, AllBelow, IsClosed}
+use Rattle.flat_model.specs.Flat.{BlockNode, Flat, no_op, no_block, op_at, block_at, blocks_at, AllBelow, IsOpWithin, IsClosed}
 use Rattle.undo_rewriter.specs.declared.step.Step.{Step}
-use Rattle.undo_rewriter.specs.declared.step.Step.TheVariants.{Begin, OpAdded, OpListed, OpUnlisted, OperandSet, ValueAdded, BlockAdded, ArgsSet, BlocksSet, Replaced}
-use Rattle.edit_model.specs.Writes.{with_op, with_ops, with_operand, with_args, with_block, with_blocks, with_value}
+use Rattle.undo_rewriter.specs.declared.step.Step.TheVariants.{Begin, OpAdded, OpListed, OpUnlisted, OperandSet, ValueAdded, BlockAdded, ArgsSet, BlocksSet, NodeSet, BlockCut, BlocksListed, Replaced}
+use Rattle.edit_model.specs.Writes.{with_op, with_ops, with_operand, with_args, with_block, with_blocks, with_node, with_value}
+use Rattle.edit_effects.specs.Cuts.{with_cut}
 use Rattle.std.specs.Prelude.{Vec}
 use Rattle.std.specs.declared.alloc.Global.{Global}
 use Rattle.undo_rewriter.specs.Journal.{undone, at_mark, edits, IsPossible, IsSound, rooms_before, Edited, KeepsMarks, IsBack}
 use Rattle.edit_model.specs.Rooms.{IsRoomier}
 use Rattle.ir_arena.specs.Arena.{Arena}
 use Rattle.undo_rewriter.proofs.JournalLaws.{sound_after, kept_after, kept_refl, kept_on, kept_same, mark_now}
-use Rattle.undo_rewriter.proofs.StepLaws.{listed_back, unlisted_back, operand_back, added_back, value_back, block_back, args_back, blocks_back}
+use Rattle.undo_rewriter.proofs.StepLaws.{listed_back, unlisted_back, operand_back, added_back, value_back, block_back, args_back, blocks_back, node_back, cut_back, put_blocks_back}
 
 pub roomier_same : (a b : List ℕ) → b ≡ a → IsRoomier a b
 roomier_same a b e = record { room = λ k. let d : get_or b k 0 ≡ get_or a k 0 = ap (λ xs. get_or xs k 0) e in omega arith }
@@ -86,6 +88,55 @@ pub blocks_done : (rooms : List ℕ) (f g : Flat) (region : ℕ) (blocks : List 
 blocks_done rooms f g region blocks was e w h =
     subst (λ x. Done rooms (BlocksSet region was) f x) (sym e) (blocks_back f region blocks was w, omega (arith, length-set f.regions region blocks))
 
+pub node_done : (rooms : List ℕ) (f g : Flat) (op : ℕ) (node was : OpNode) → g ≡ with_node f op node → was ≡ op_at f op → op < length f.ops → Done rooms (NodeSet op was) f g
+node_done rooms f g op node was e w h =
+    subst (λ x. Done rooms (NodeSet op was) f x) (sym e) (subst (λ x. Done rooms (NodeSet op x) f (with_node f op node)) (sym w) (node_back f op node, omega (arith, length-set f.ops op node)))
+
+-- what is asked before a cut is taken back
+abbrev CanJoin : List ℕ → ℕ → ℕ → Flat → Type 0
+CanJoin rooms block end f = (block < end) × (end < length f.blocks) × (length (block_at f block).ops + length (block_at f end).ops ≤ get_or rooms block 0)
+
+pub cut_done : (rooms before : List ℕ) (f g : Flat) (block at end : ℕ) → g ≡ with_cut f block at → end ≡ length f.blocks → block < length f.blocks → at ≤ length (block_at f block).ops
+    → take (length f.blocks) rooms ≡ before → length (block_at f block).ops ≤ get_or before block 0 → Done rooms (BlockCut block end) f g
+cut_done rooms before f g block at end e d l k t r = let bs = f.blocks in let n = length bs in let xs = (block_at f block).ops in
+    let front : BlockNode = record (block_at f block) { ops = take at xs } in let back : BlockNode = record { args = []; ops = drop at xs } in
+    let cs = set bs block front in let m : length cs ≡ n = length-set bs block front in let inside : block < length cs = omega (arith, m) in
+    let room : get_or before block 0 ≡ get_or rooms block 0 = ap (λ (rs : List ℕ). get_or rs block 0) (sym t) ∙ get_or-take n rooms block 0 l in
+    let sum : length (take at xs) + length (drop at xs) ≡ length xs = sym (length-append (take at xs) (drop at xs)) ∙ ap length (take-append-drop at xs) in
+    let one : get_or (cs ++ back ∷ []) block no_block ≡ front = get_or_append_left cs (back ∷ []) no_block block inside ∙ get_or-set_same bs block front no_block l in
+    let two : get_or (cs ++ back ∷ []) n no_block ≡ back = get_or_push cs back no_block n m in
+    subst (λ x. Done rooms (BlockCut block end) f x) (sym e) (subst (λ x. Done rooms (BlockCut block x) f (with_cut f block at)) (sym d) (
+      cut_back f block at l,
+      (
+        l,
+        omega (arith, length_push cs back, m),
+        subst (λ (b : BlockNode). length b.ops + length (get_or (cs ++ back ∷ []) n no_block).ops ≤ get_or rooms block 0) (sym one)
+            (subst (λ (b : BlockNode). length (take at xs) + length b.ops ≤ get_or rooms block 0) (sym two) (omega (arith, sum, room, r))),
+      ),
+    ))
+
+pub put_blocks_done : (rooms : List ℕ) (f g : Flat) (region at count : ℕ) (more : List ℕ) → g ≡ with_blocks f region (take at (blocks_at f region) ++ more ++ drop at (blocks_at f region)) → region < length f.regions
+    → at ≤ length (blocks_at f region) → count ≡ length more → Done rooms (BlocksListed region at count) f g
+put_blocks_done rooms f g region at count more e l h c = let bs = blocks_at f region in let ys = take at bs ++ more ++ drop at bs in
+    subst (λ x. Done rooms (BlocksListed region at count) f x) (sym e) (
+      put_blocks_back f region at count more l h c,
+      (
+        omega (arith, length-set f.regions region ys),
+        subst (λ (zs : List ℕ). at + count ≤ length zs) (sym (get_or-set_same f.regions region ys [] l))
+            (omega (arith, c, length-append (take at bs ++ more) (drop at bs), length-append (take at bs) more, length-take-le at bs h)),
+      ),
+    )
+
+pub node_known : (f : Flat) (op : ℕ) (node : OpNode) → IsClosed (with_node f op node) → op < length f.ops → IsOpWithin (length f.types) (length f.blocks) f node
+node_known f op node c h = let b : op < length (set f.ops op node) = omega (arith, length-set f.ops op node) in
+    let w : IsOpWithin (length f.types) (length f.blocks) (with_node f op node) node = subst (λ (m : OpNode). IsOpWithin (length f.types) (length f.blocks) (with_node f op node) m) (get_or-set_same f.ops op node no_op h) (c.within.op op b) in
+    record { results = w.results; operands = w.operands; regions = w.regions; successors = w.successors }
+
+-- a node with another name and other properties names what is there
+pub renamed_within : (f : Flat) (op : ℕ) (node : OpNode) (name : List ℕ) (props : List NamedAttr) → node ≡ record (op_at f op) { name = name; props = props } → IsClosed f → op < length f.ops → IsOpWithin (length f.types) (length f.blocks) f node
+renamed_within f op node name props e c l = let w : IsOpWithin (length f.types) (length f.blocks) f (op_at f op) = c.within.op op l in
+    subst (λ (n : OpNode). IsOpWithin (length f.types) (length f.blocks) f n) (sym e) (record { results = w.results; operands = w.operands; regions = w.regions; successors = w.successors })
+
 pub args_known : (f : Flat) (block : ℕ) (args : List ℕ) → IsClosed (with_args f block args) → block < length f.blocks → AllBelow (length f.types) args
 args_known f block args c h = let n : BlockNode = record (block_at f block) { args = args } in
     let b : block < length (set f.blocks block n) = omega (arith, length-set f.blocks block n) in
@@ -129,6 +180,9 @@ edits_few (ValueAdded a ∷ us) = let e = edits_few us in omega arith
 edits_few (BlockAdded a ∷ us) = let e = edits_few us in omega arith
 edits_few (ArgsSet a b ∷ us) = let e = edits_few us in omega arith
 edits_few (BlocksSet a b ∷ us) = let e = edits_few us in omega arith
+edits_few (NodeSet a b ∷ us) = let e = edits_few us in omega arith
+edits_few (BlockCut a b ∷ us) = let e = edits_few us in omega arith
+edits_few (BlocksListed a b c ∷ us) = let e = edits_few us in omega arith
 edits_few (Replaced a ∷ us) = let e = edits_few us in omega arith
 
 pub ruleset writer_laws = (common_steps, kept_refl, kept_on, kept_same)

@@ -1,9 +1,10 @@
 -- Steps taken back, and journals of them.
-use Rattle.std.specs.Prelude.{◌≡◌, ℕ, ◌+◌, ◌-◌, ◌<◌, ◌≤◌, List, [], ◌∷◌, length, get_or, insert, remove, take, drop}
-use Rattle.flat_model.specs.Flat.{Flat, op_at, block_at, IsClosed}
+use Rattle.std.specs.Prelude.{◌≡◌, ℕ, ◌+◌, ◌-◌, ◌<◌, ◌≤◌, List, [], ◌∷◌, ◌++◌, length, get_or, insert, remove, take, drop}
+use Rattle.flat_model.specs.Flat.{Flat, op_at, block_at, blocks_at, IsClosed}
 use Rattle.undo_rewriter.specs.declared.step.Step.{Step}
-use Rattle.undo_rewriter.specs.declared.step.Step.TheVariants.{Begin, OpAdded, OpListed, OpUnlisted, OperandSet, ValueAdded, BlockAdded, ArgsSet, BlocksSet, Replaced}
-use Rattle.edit_model.specs.Writes.{with_ops, with_operand, with_args, with_blocks}
+use Rattle.undo_rewriter.specs.declared.step.Step.TheVariants.{Begin, OpAdded, OpListed, OpUnlisted, OperandSet, ValueAdded, BlockAdded, ArgsSet, BlocksSet, NodeSet, BlockCut, BlocksListed, Replaced}
+use Rattle.edit_model.specs.Writes.{with_ops, with_operand, with_args, with_blocks, with_node}
+use Rattle.edit_effects.specs.Cuts.{joined}
 
 -- the nodes before a step
 abbrev pub undone : Step → Flat → Flat
@@ -16,11 +17,15 @@ undone (ValueAdded values) f = record f { types = take values f.types }
 undone (BlockAdded blocks) f = record f { blocks = take blocks f.blocks }
 undone (ArgsSet block args) f = with_args f block args.items
 undone (BlocksSet region blocks) f = with_blocks f region blocks.items
+undone (NodeSet op node) f = with_node f op node
+undone (BlockCut block end) f = joined f block end
+undone (BlocksListed region at count) f = with_blocks f region (take at (blocks_at f region) ++ drop (at + count) (blocks_at f region))
 undone (Replaced a) f = a.flat
 
 -- how much room the blocks' lists had before a step at least, where they have this much after it
 abbrev pub rooms_before : Step → List ℕ → List ℕ
 rooms_before (BlockAdded blocks) rooms = take blocks rooms
+rooms_before (BlockCut block end) rooms = take end rooms
 rooms_before (Replaced a) rooms = a.rooms
 rooms_before u rooms = rooms
 
@@ -55,6 +60,9 @@ IsPossible rooms (ValueAdded values) f = Unit {0}
 IsPossible rooms (BlockAdded blocks) f = Unit {0}
 IsPossible rooms (ArgsSet block args) f = block < length f.blocks
 IsPossible rooms (BlocksSet region blocks) f = region < length f.regions
+IsPossible rooms (NodeSet op node) f = op < length f.ops
+IsPossible rooms (BlockCut block end) f = (block < end) × (end < length f.blocks) × (length (block_at f block).ops + length (block_at f end).ops ≤ get_or rooms block 0)
+IsPossible rooms (BlocksListed region at count) f = (region < length f.regions) × (at + count ≤ length (blocks_at f region))
 IsPossible rooms (Replaced a) f = Unit {0}
 
 -- and the nodes before it are closed

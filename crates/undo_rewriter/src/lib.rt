@@ -3,16 +3,21 @@
 
 mod arg_edits;
 mod cell_steps;
+mod cuts;
 mod edits;
 mod held;
 mod last;
+mod listing;
 mod lists;
 mod marks;
 mod new_op;
+mod node_steps;
 mod replacing;
 mod rewriter;
+mod root_edit;
 mod step;
 mod steps;
+mod ticks;
 mod undoing;
 mod uses;
 

@@ -21,6 +21,11 @@ impl Rewriter {
         }
     }
 
+    /// Where memory is taken from.
+    pub fn alloc(&self) -> Global {
+        self.alloc
+    }
+
     /// The function as it is now.
     pub fn func(&self) -> &Func
         ensures { result.now.flat ≡ self.now.now }

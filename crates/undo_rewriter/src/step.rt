@@ -1,6 +1,7 @@
 //! Steps, of which edits are made.
 
 use crate::held::Held;
+use flat_model::OpNode;
 use ir_arena::Func;
 
 /// What a step did, as far as it is needed to take it back.
@@ -24,6 +25,12 @@ pub enum Step {
     ArgsSet(u32, Held<Vec<u32>>),
     /// A region got other blocks: the region, and the blocks that it had.
     BlocksSet(u32, Held<Vec<u32>>),
+    /// An operation got another node: the operation, and the node that it had.
+    NodeSet(u32, Held<OpNode>),
+    /// A block was cut in two: the block, and the new one, which has its end.
+    BlockCut(u32, u32),
+    /// Blocks were put into a region: the region, the place, and how many.
+    BlocksListed(u32, u32, u32),
     /// Another function took the place of this one. This is an edit by itself.
     Replaced(Held<Func>),
 }

@@ -13,7 +13,7 @@ use tree_model::NoMemory;
 
 impl Rewriter {
     /// An edit begins.
-    pub(crate) fn begin(&mut self) -> Result<(), NoMemory>
+    pub fn begin(&mut self) -> Result<(), NoMemory>
         ensures ok { OnOk result (self.new.now ≡ self.old.now) }
         ensures kept { OnOk result (KeepsMarks self.old self.new) }
         ensures err { OnErr result (self.new ≡ self.old) }
@@ -24,7 +24,7 @@ impl Rewriter {
     }
 
     /// Makes a value an operand.
-    pub(crate) fn put_operand(&mut self, op: OpId, at: u32, value: ValueId) -> Result<(), NoMemory>
+    pub fn put_operand(&mut self, op: OpId, at: u32, value: ValueId) -> Result<(), NoMemory>
         requires op { op < length self.old.now.ops }
         requires at { at < length (op_at self.old.now op).operands }
         requires value { value < length self.old.now.types }
@@ -39,7 +39,7 @@ impl Rewriter {
     }
 
     /// Adds an operation behind all others, and values of these types.
-    pub(crate) fn add(&mut self, node: OpNode, types: &[Handle]) -> Result<OpId, NoMemory>
+    pub fn add(&mut self, node: OpNode, types: &[Handle]) -> Result<OpId, NoMemory>
         requires { IsOpWithin (length self.old.now.types + length types.now) (length self.old.now.blocks) (record self.old.now { types = self.old.now.types ++ types.now }) node }
         ensures op { IfOk result (λ op. op ≡ length self.old.now.ops) }
         ensures ok { OnOk result (self.new.now ≡ with_op self.old.now node types.now) }
@@ -58,7 +58,7 @@ impl Rewriter {
     }
 
     /// Puts an operation into a block.
-    pub(crate) fn list(&mut self, block: BlockId, at: u32, op: OpId) -> Result<(), NoMemory>
+    pub fn list(&mut self, block: BlockId, at: u32, op: OpId) -> Result<(), NoMemory>
         requires block { block < length self.old.now.blocks }
         requires at { at ≤ length (block_at self.old.now block).ops }
         requires op { op < length self.old.now.ops }
@@ -77,7 +77,7 @@ impl Rewriter {
     }
 
     /// Takes an operation out of a block.
-    pub(crate) fn unlist(&mut self, block: BlockId, at: u32) -> Result<(), NoMemory>
+    pub fn unlist(&mut self, block: BlockId, at: u32) -> Result<(), NoMemory>
         requires block { block < length self.old.now.blocks }
         requires at { at < length (block_at self.old.now block).ops }
         ensures ok { OnOk result (self.new.now ≡ with_ops self.old.now block (remove (block_at self.old.now block).ops at)) }

@@ -3,6 +3,8 @@
 ghost use Rattle.std.specs.Prelude.{◌≡◌, ℕ, ◌+◌, ◌-◌, ◌<◌, length, take, drop, if◌then◌else◌};
 ghost use Rattle.undo_rewriter.specs.Journal.{at_mark, edits};
 
+use crate::cuts::join_again;
+use crate::listing::unlist_blocks;
 use crate::rewriter::Rewriter;
 use crate::step::Step;
 
@@ -47,6 +49,24 @@ impl Rewriter {
             }
             Some(Step::BlocksSet(region, held)) => {
                 self.func.exchange_blocks(region, held.into_inner());
+                false
+            }
+            Some(Step::NodeSet(op, held)) => {
+                self.func.exchange_node(op, held.into_inner());
+                false
+            }
+            Some(Step::BlockCut(block, end)) => {
+                join_again(&mut self.func, self.alloc, block, end);
+                false
+            }
+            Some(Step::BlocksListed(region, at, count)) => {
+                unlist_blocks(
+                    &mut self.func,
+                    self.alloc,
+                    region,
+                    at as usize,
+                    count as usize,
+                );
                 false
             }
             Some(Step::Replaced(held)) => {

@@ -2,13 +2,14 @@ use Rattle.std.proofs.Common.{◌≡◌, ℕ, ◌<◌, ◌+◌, arith, sym, ap, 
 use Rattle.std.specs.Prelude.{Vec}
 use Rattle.std.specs.declared.alloc.Global.{Global}
 use Rattle.std.proofs.lemmas.Grind.{common_steps}
-use Rattle.flat_model.specs.Flat.{AllBelow}
-use Rattle.edit_model.specs.Writes.{with_args, with_blocks}
+use Rattle.flat_model.specs.declared.nodes.OpNode.{OpNode}
+use Rattle.flat_model.specs.Flat.{AllBelow, IsOpWithin}
+use Rattle.edit_model.specs.Writes.{with_args, with_blocks, with_node}
 use Rattle.ir_arena.specs.Arena.{Arena}
-use Rattle.undo_rewriter.specs.declared.step.Step.TheVariants.{Begin, OpAdded, OpListed, OpUnlisted, OperandSet, ValueAdded, BlockAdded, ArgsSet, BlocksSet, Replaced}
+use Rattle.undo_rewriter.specs.declared.step.Step.TheVariants.{Begin, OpAdded, OpListed, OpUnlisted, OperandSet, ValueAdded, BlockAdded, ArgsSet, BlocksSet, NodeSet, BlockCut, BlocksListed, Replaced}
 use Rattle.undo_rewriter.specs.Journal.{at_mark, edits, Edited}
 use Rattle.undo_rewriter.proofs.JournalLaws.{last_can, popped_sound, popped_mark, popped_edits}
-use Rattle.undo_rewriter.proofs.WriterLaws.{roomier_same, listed_known, operand_known, args_known, blocks_known}
+use Rattle.undo_rewriter.proofs.WriterLaws.{roomier_same, listed_known, operand_known, args_known, blocks_known, node_known}
 use Rattle.undo_rewriter.proofs.rewriter.Rewriter.undo_last.Goals as goal
 
 pub invariant_of-self-in-Some-Begin : goal.invariant_of-self-in-Some-Begin
@@ -143,6 +144,57 @@ exchange_blocks-requires-clause-region c = (last_can c.self.inside.func.rooms c.
 
 pub exchange_blocks-requires-clause-blocks : goal.exchange_blocks-requires-clause-blocks
 exchange_blocks-requires-clause-blocks c = subst (λ (v : Vec ℕ Global). AllBelow (length c.self.inside.func.flat.blocks) v.items) (sym c.into_inner-in-Some-BlocksSet.ensures) (blocks_known c.self.inside.func.flat c.in-Some-BlocksSet.region c.in-Some-BlocksSet.held.items (last_can c.self.inside.func.rooms c.self.inside.journal.items c.pop.new.self.items (BlocksSet c.in-Some-BlocksSet.region c.in-Some-BlocksSet.held) c.self.inside.func.flat (let h : c.self.inside.journal.items ≡ c.pop.new.self.items ++ (BlocksSet c.in-Some-BlocksSet.region c.in-Some-BlocksSet.held) ∷ [] = grind (arith, common_steps) in h) c.self.invariant).closed (last_can c.self.inside.func.rooms c.self.inside.journal.items c.pop.new.self.items (BlocksSet c.in-Some-BlocksSet.region c.in-Some-BlocksSet.held) c.self.inside.func.flat (let h : c.self.inside.journal.items ≡ c.pop.new.self.items ++ (BlocksSet c.in-Some-BlocksSet.region c.in-Some-BlocksSet.held) ∷ [] = grind (arith, common_steps) in h) c.self.invariant).possible)
+
+pub invariant_of-self-in-Some-NodeSet : goal.invariant_of-self-in-Some-NodeSet
+invariant_of-self-in-Some-NodeSet c = popped_sound c.self.inside.func.rooms c.exchange_node.new.self.rooms c.self.inside.journal.items c.pop.new.self.items (NodeSet c.in-Some-NodeSet.op c.in-Some-NodeSet.held) c.self.inside.func.flat c.exchange_node.new.self.flat (let h : c.self.inside.journal.items ≡ c.pop.new.self.items ++ (NodeSet c.in-Some-NodeSet.op c.in-Some-NodeSet.held) ∷ [] = grind (arith, common_steps) in h) c.self.invariant (roomier_same _ _ (grind (arith, common_steps))) (c.exchange_node.ensures.flat ∙ ap (λ (n : OpNode). with_node c.self.inside.func.flat c.in-Some-NodeSet.op n) c.into_inner-in-Some-NodeSet.ensures)
+
+pub returns-in-Some-NodeSet-clause-marks : goal.returns-in-Some-NodeSet-clause-marks
+returns-in-Some-NodeSet-clause-marks c = subst (λ (a : Edited). (mark : ℕ) → mark < length a.journal → at_mark c.pop.new.self.items c.exchange_node.new.self.flat mark ≡ at_mark a.journal a.now mark) c.self.view_is (popped_mark c.self.inside.journal.items c.pop.new.self.items (NodeSet c.in-Some-NodeSet.op c.in-Some-NodeSet.held) c.self.inside.func.flat c.exchange_node.new.self.flat (let h : c.self.inside.journal.items ≡ c.pop.new.self.items ++ (NodeSet c.in-Some-NodeSet.op c.in-Some-NodeSet.held) ∷ [] = grind (arith, common_steps) in h) (c.exchange_node.ensures.flat ∙ ap (λ (n : OpNode). with_node c.self.inside.func.flat c.in-Some-NodeSet.op n) c.into_inner-in-Some-NodeSet.ensures))
+
+pub returns-in-Some-NodeSet-clause-edits : goal.returns-in-Some-NodeSet-clause-edits
+returns-in-Some-NodeSet-clause-edits c = subst (λ (a : Edited). (mark : ℕ) → mark < length a.journal → edits (drop mark a.journal) ≡ edits (drop mark c.pop.new.self.items) + edits ((NodeSet c.in-Some-NodeSet.op c.in-Some-NodeSet.held) ∷ [])) c.self.view_is (λ mark l. popped_edits c.self.inside.journal.items c.pop.new.self.items (NodeSet c.in-Some-NodeSet.op c.in-Some-NodeSet.held) mark (let h : c.self.inside.journal.items ≡ c.pop.new.self.items ++ (NodeSet c.in-Some-NodeSet.op c.in-Some-NodeSet.held) ∷ [] = grind (arith, common_steps) in h) l)
+
+pub exchange_node-requires-clause-op : goal.exchange_node-requires-clause-op
+exchange_node-requires-clause-op c = (last_can c.self.inside.func.rooms c.self.inside.journal.items c.pop.new.self.items (NodeSet c.in-Some-NodeSet.op c.in-Some-NodeSet.held) c.self.inside.func.flat (let h : c.self.inside.journal.items ≡ c.pop.new.self.items ++ (NodeSet c.in-Some-NodeSet.op c.in-Some-NodeSet.held) ∷ [] = grind (arith, common_steps) in h) c.self.invariant).possible
+
+pub exchange_node-requires-clause-node : goal.exchange_node-requires-clause-node
+exchange_node-requires-clause-node c = subst (λ (n : OpNode). IsOpWithin (length c.self.inside.func.flat.types) (length c.self.inside.func.flat.blocks) c.self.inside.func.flat n) (sym c.into_inner-in-Some-NodeSet.ensures) (node_known c.self.inside.func.flat c.in-Some-NodeSet.op c.in-Some-NodeSet.held (last_can c.self.inside.func.rooms c.self.inside.journal.items c.pop.new.self.items (NodeSet c.in-Some-NodeSet.op c.in-Some-NodeSet.held) c.self.inside.func.flat (let h : c.self.inside.journal.items ≡ c.pop.new.self.items ++ (NodeSet c.in-Some-NodeSet.op c.in-Some-NodeSet.held) ∷ [] = grind (arith, common_steps) in h) c.self.invariant).closed (last_can c.self.inside.func.rooms c.self.inside.journal.items c.pop.new.self.items (NodeSet c.in-Some-NodeSet.op c.in-Some-NodeSet.held) c.self.inside.func.flat (let h : c.self.inside.journal.items ≡ c.pop.new.self.items ++ (NodeSet c.in-Some-NodeSet.op c.in-Some-NodeSet.held) ∷ [] = grind (arith, common_steps) in h) c.self.invariant).possible)
+
+pub invariant_of-self-in-Some-BlockCut : goal.invariant_of-self-in-Some-BlockCut
+invariant_of-self-in-Some-BlockCut c = popped_sound c.self.inside.func.rooms c.join_again.new.func.rooms c.self.inside.journal.items c.pop.new.self.items (BlockCut c.in-Some-BlockCut.block c.in-Some-BlockCut.end) c.self.inside.func.flat c.join_again.new.func.flat (let h : c.self.inside.journal.items ≡ c.pop.new.self.items ++ (BlockCut c.in-Some-BlockCut.block c.in-Some-BlockCut.end) ∷ [] = grind (arith, common_steps) in h) c.self.invariant (roomier_same _ _ c.join_again.ensures.rooms) c.join_again.ensures.flat
+
+pub returns-in-Some-BlockCut-clause-marks : goal.returns-in-Some-BlockCut-clause-marks
+returns-in-Some-BlockCut-clause-marks c = subst (λ (a : Edited). (mark : ℕ) → mark < length a.journal → at_mark c.pop.new.self.items c.join_again.new.func.flat mark ≡ at_mark a.journal a.now mark) c.self.view_is (popped_mark c.self.inside.journal.items c.pop.new.self.items (BlockCut c.in-Some-BlockCut.block c.in-Some-BlockCut.end) c.self.inside.func.flat c.join_again.new.func.flat (let h : c.self.inside.journal.items ≡ c.pop.new.self.items ++ (BlockCut c.in-Some-BlockCut.block c.in-Some-BlockCut.end) ∷ [] = grind (arith, common_steps) in h) c.join_again.ensures.flat)
+
+pub returns-in-Some-BlockCut-clause-edits : goal.returns-in-Some-BlockCut-clause-edits
+returns-in-Some-BlockCut-clause-edits c = subst (λ (a : Edited). (mark : ℕ) → mark < length a.journal → edits (drop mark a.journal) ≡ edits (drop mark c.pop.new.self.items) + edits ((BlockCut c.in-Some-BlockCut.block c.in-Some-BlockCut.end) ∷ [])) c.self.view_is (λ mark l. popped_edits c.self.inside.journal.items c.pop.new.self.items (BlockCut c.in-Some-BlockCut.block c.in-Some-BlockCut.end) mark (let h : c.self.inside.journal.items ≡ c.pop.new.self.items ++ (BlockCut c.in-Some-BlockCut.block c.in-Some-BlockCut.end) ∷ [] = grind (arith, common_steps) in h) l)
+
+pub join_again-requires-clause-block : goal.join_again-requires-clause-block
+join_again-requires-clause-block c = (last_can c.self.inside.func.rooms c.self.inside.journal.items c.pop.new.self.items (BlockCut c.in-Some-BlockCut.block c.in-Some-BlockCut.end) c.self.inside.func.flat (let h : c.self.inside.journal.items ≡ c.pop.new.self.items ++ (BlockCut c.in-Some-BlockCut.block c.in-Some-BlockCut.end) ∷ [] = grind (arith, common_steps) in h) c.self.invariant).possible.0
+
+pub join_again-requires-clause-end : goal.join_again-requires-clause-end
+join_again-requires-clause-end c = (last_can c.self.inside.func.rooms c.self.inside.journal.items c.pop.new.self.items (BlockCut c.in-Some-BlockCut.block c.in-Some-BlockCut.end) c.self.inside.func.flat (let h : c.self.inside.journal.items ≡ c.pop.new.self.items ++ (BlockCut c.in-Some-BlockCut.block c.in-Some-BlockCut.end) ∷ [] = grind (arith, common_steps) in h) c.self.invariant).possible.1
+
+pub join_again-requires-clause-room : goal.join_again-requires-clause-room
+join_again-requires-clause-room c = (last_can c.self.inside.func.rooms c.self.inside.journal.items c.pop.new.self.items (BlockCut c.in-Some-BlockCut.block c.in-Some-BlockCut.end) c.self.inside.func.flat (let h : c.self.inside.journal.items ≡ c.pop.new.self.items ++ (BlockCut c.in-Some-BlockCut.block c.in-Some-BlockCut.end) ∷ [] = grind (arith, common_steps) in h) c.self.invariant).possible.2
+
+pub join_again-requires-clause-closed : goal.join_again-requires-clause-closed
+join_again-requires-clause-closed c = (last_can c.self.inside.func.rooms c.self.inside.journal.items c.pop.new.self.items (BlockCut c.in-Some-BlockCut.block c.in-Some-BlockCut.end) c.self.inside.func.flat (let h : c.self.inside.journal.items ≡ c.pop.new.self.items ++ (BlockCut c.in-Some-BlockCut.block c.in-Some-BlockCut.end) ∷ [] = grind (arith, common_steps) in h) c.self.invariant).closed
+
+pub invariant_of-self-in-Some-BlocksListed : goal.invariant_of-self-in-Some-BlocksListed
+invariant_of-self-in-Some-BlocksListed c = popped_sound c.self.inside.func.rooms c.unlist_blocks.new.func.rooms c.self.inside.journal.items c.pop.new.self.items (BlocksListed c.in-Some-BlocksListed.region c.in-Some-BlocksListed.at c.in-Some-BlocksListed.count) c.self.inside.func.flat c.unlist_blocks.new.func.flat (let h : c.self.inside.journal.items ≡ c.pop.new.self.items ++ (BlocksListed c.in-Some-BlocksListed.region c.in-Some-BlocksListed.at c.in-Some-BlocksListed.count) ∷ [] = grind (arith, common_steps) in h) c.self.invariant (roomier_same _ _ c.unlist_blocks.ensures.rooms) c.unlist_blocks.ensures.flat
+
+pub returns-in-Some-BlocksListed-clause-marks : goal.returns-in-Some-BlocksListed-clause-marks
+returns-in-Some-BlocksListed-clause-marks c = subst (λ (a : Edited). (mark : ℕ) → mark < length a.journal → at_mark c.pop.new.self.items c.unlist_blocks.new.func.flat mark ≡ at_mark a.journal a.now mark) c.self.view_is (popped_mark c.self.inside.journal.items c.pop.new.self.items (BlocksListed c.in-Some-BlocksListed.region c.in-Some-BlocksListed.at c.in-Some-BlocksListed.count) c.self.inside.func.flat c.unlist_blocks.new.func.flat (let h : c.self.inside.journal.items ≡ c.pop.new.self.items ++ (BlocksListed c.in-Some-BlocksListed.region c.in-Some-BlocksListed.at c.in-Some-BlocksListed.count) ∷ [] = grind (arith, common_steps) in h) c.unlist_blocks.ensures.flat)
+
+pub returns-in-Some-BlocksListed-clause-edits : goal.returns-in-Some-BlocksListed-clause-edits
+returns-in-Some-BlocksListed-clause-edits c = subst (λ (a : Edited). (mark : ℕ) → mark < length a.journal → edits (drop mark a.journal) ≡ edits (drop mark c.pop.new.self.items) + edits ((BlocksListed c.in-Some-BlocksListed.region c.in-Some-BlocksListed.at c.in-Some-BlocksListed.count) ∷ [])) c.self.view_is (λ mark l. popped_edits c.self.inside.journal.items c.pop.new.self.items (BlocksListed c.in-Some-BlocksListed.region c.in-Some-BlocksListed.at c.in-Some-BlocksListed.count) mark (let h : c.self.inside.journal.items ≡ c.pop.new.self.items ++ (BlocksListed c.in-Some-BlocksListed.region c.in-Some-BlocksListed.at c.in-Some-BlocksListed.count) ∷ [] = grind (arith, common_steps) in h) l)
+
+pub unlist_blocks-requires-clause-region : goal.unlist_blocks-requires-clause-region
+unlist_blocks-requires-clause-region c = (last_can c.self.inside.func.rooms c.self.inside.journal.items c.pop.new.self.items (BlocksListed c.in-Some-BlocksListed.region c.in-Some-BlocksListed.at c.in-Some-BlocksListed.count) c.self.inside.func.flat (let h : c.self.inside.journal.items ≡ c.pop.new.self.items ++ (BlocksListed c.in-Some-BlocksListed.region c.in-Some-BlocksListed.at c.in-Some-BlocksListed.count) ∷ [] = grind (arith, common_steps) in h) c.self.invariant).possible.0
+
+pub unlist_blocks-requires-clause-count : goal.unlist_blocks-requires-clause-count
+unlist_blocks-requires-clause-count c = (last_can c.self.inside.func.rooms c.self.inside.journal.items c.pop.new.self.items (BlocksListed c.in-Some-BlocksListed.region c.in-Some-BlocksListed.at c.in-Some-BlocksListed.count) c.self.inside.func.flat (let h : c.self.inside.journal.items ≡ c.pop.new.self.items ++ (BlocksListed c.in-Some-BlocksListed.region c.in-Some-BlocksListed.at c.in-Some-BlocksListed.count) ∷ [] = grind (arith, common_steps) in h) c.self.invariant).possible.1
 
 pub invariant_of-self-in-Some-Replaced : goal.invariant_of-self-in-Some-Replaced
 invariant_of-self-in-Some-Replaced c = popped_sound c.self.inside.func.rooms c.into_inner-in-Some-Replaced.result.rooms c.self.inside.journal.items c.pop.new.self.items (Replaced c.in-Some-Replaced.held) c.self.inside.func.flat c.into_inner-in-Some-Replaced.result.flat (let h : c.self.inside.journal.items ≡ c.pop.new.self.items ++ (Replaced c.in-Some-Replaced.held) ∷ [] = grind (arith, common_steps) in h) c.self.invariant (roomier_same _ _ (ap (λ (a : Arena). a.rooms) c.into_inner-in-Some-Replaced.ensures)) (ap (λ (a : Arena). a.flat) c.into_inner-in-Some-Replaced.ensures)
