@@ -1,0 +1,9 @@
+pub mod RoomLaws
+pub mod LineLaws
+pub mod EntryLaws
+pub mod FrameLaws
+pub mod KindLaws
+pub mod ListLaws
+pub mod SlotLaws
+pub mod RenameLaws
+pub mod WholeLaws

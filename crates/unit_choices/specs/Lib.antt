@@ -1,0 +1,7 @@
+pub mod Orders
+pub mod Lines
+pub mod Separate
+pub mod Entries
+pub mod Choosing
+pub mod Slotting
+pub mod Answers
