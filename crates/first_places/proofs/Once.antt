@@ -5,7 +5,8 @@ use Rattle.std.proofs.lemmas.Bool.{eqb-true, eq-eqb}
 use Rattle.plain_tree.specs.Ops.{Op, op, Ops, end_of_ops, more_ops, Regions, end_of_regions, region, Blocks, end_of_blocks, block, Values}
 use Rattle.plain_tree.specs.Values.{blocks_values, op_values, ops_values, regions_values}
 use Rattle.rule_model.specs.Words.{has, numbers, results_of}
-use Rattle.rule_model.specs.Formed.{are_once, blocks_labels, is_formed_function, is_formed_here, is_function_name, op_labels, ops_labels, own_labels, regions_labels}
+use Rattle.rule_model.specs.Formed.{are_once, blocks_labels, op_labels, ops_labels, own_labels, regions_labels}
+use Rattle.first_places.specs.Numbering.{is_numbered_once}
 use Rattle.rule_model.specs.Search.{op_apart, ops_apart, regions_apart, blocks_apart}
 use Rattle.rule_model.proofs.Numbers.{and_first, and_second, itself, not_true}
 
@@ -181,18 +182,14 @@ own_counted v (block label args ops bs) more =
 pub args_first : (v : ℕ) (args : Values) (more : Values) → times v more ≤ times v (args ++ more)
 args_first v args more = let sum = values_joined v args more in omega (arith, sum)
 
--- A formed function
+-- A function that numbers each value and each block once
 
 pub record Once (f : Op) : Type 0 where
   pub values : (v : ℕ) → times v (op_values f []) ≤ 1
   pub apart : op_apart f ≡ true
 
-pub formed_once : (f : Op) → is_formed_function f ≡ true → Once f
-formed_once (op k results operands regions successors) formed =
-    let f : Op = op k results operands regions successors in
-    let behind = and_second (is_function_name k.name) _ formed in
-    let rest = and_second (are_once (numbers (op_values f []))) _ behind in
-    record {
-      values = λ v. once_counted v (numbers (op_values f [])) (and_first (are_once (numbers (op_values f []))) _ behind);
-      apart = op_is_apart f (λ v. once_counted v (op_labels f) (and_first (are_once (op_labels f)) _ rest));
-    }
+pub numbered_once : (f : Op) → is_numbered_once f ≡ true → Once f
+numbered_once f numbered = record {
+  values = λ v. once_counted v (numbers (op_values f [])) (and_first (are_once (numbers (op_values f []))) _ numbered);
+  apart = op_is_apart f (λ v. once_counted v (op_labels f) (and_second (are_once (numbers (op_values f []))) _ numbered));
+}

@@ -8,11 +8,11 @@ use Rattle.plain_tree.specs.Values.{types_of}
 use Rattle.rule_model.specs.Words.{AllOf, AnyOf, numbers, results_of}
 use Rattle.rule_model.specs.Chains.{Chain}
 use Rattle.rule_model.specs.Facts.{Holder}
-use Rattle.rule_model.specs.Formed.{is_formed_function}
+use Rattle.first_places.specs.Numbering.{is_numbered_once}
 use Rattle.rule_model.specs.Sites.{Around, blocks_sites, frame_of, holds, op_sites, ops_sites, regions_sites, Site, sites}
 use Rattle.rule_model.specs.Paths.{Frame}
 use Rattle.first_places.specs.First.{FirstAt, IsFirst}
-use Rattle.first_places.proofs.Once.{formed_once}
+use Rattle.first_places.proofs.Once.{numbered_once}
 use Rattle.own_uses.specs.Flat.{blocks_all, graph, maker_in, op_all, ops_all, regions_all, row_of}
 use Rattle.own_uses.specs.Own.{UsesItself}
 use Rattle.own_uses.specs.Ranks.{FirstOnCycle, OnCycle}
@@ -92,9 +92,9 @@ by_length : (edges : List (List ℕ)) (size : ℕ) (place : Option ℕ) → leng
 by_length edges size None e none = λ n less. none n (omega (arith, e, less))
 by_length edges size (Some k) e first = (let less = first.0 in omega (arith, e, less), first.1, first.2)
 
-pub own_at : (f : Op) (place : Option ℕ) → FirstOnCycle (graph (op_all f [])) place → is_formed_function f ≡ true → FirstAt (UsesItself f) (sites f) place
-own_at f place first formed =
-    let once = formed_once f formed in
+pub own_at : (f : Op) (place : Option ℕ) → FirstOnCycle (graph (op_all f [])) place → is_numbered_once f ≡ true → FirstAt (UsesItself f) (sites f) place
+own_at f place first numbered =
+    let once = numbered_once f numbered in
     let os : List Op = op_all f [] in
     let size : length (graph os) ≡ length os = length-map os (row_of (maker_in os)) in
     first_site (AnyOf (λ v. Chain f v v)) (sites f) place

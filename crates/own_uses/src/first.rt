@@ -2,7 +2,7 @@
 
 ghost use Rattle.std.specs.Prelude.{◌≡◌, ◌<◌, ◌↔◌, IfOk, true, false, get_or, length};
 ghost use Rattle.plain_tree.specs.Ops.{plain_op};
-ghost use Rattle.rule_model.specs.Formed.{is_formed_function};
+ghost use Rattle.first_places.specs.Numbering.{is_numbered_once};
 ghost use Rattle.rule_model.specs.Sites.{sites};
 ghost use Rattle.block_search.specs.Reach.{rows};
 ghost use Rattle.first_places.specs.First.{FirstAt};
@@ -101,7 +101,7 @@ fn first_on_cycle(alloc: Global, edges: &[Vec<usize>]) -> Result<Option<usize>, 
 /// Where no result uses itself this takes one pass over the uses; else each operation in front of the first one, of which a path leads to
 /// one that uses itself, is searched from.
 pub fn first_own_use(alloc: Global, function: &OpTree) -> Result<Option<usize>, NoMemory>
-    ensures { IfOk result (λ place. is_formed_function (plain_op function.now) ≡ true → FirstAt (UsesItself (plain_op function.now)) (sites (plain_op function.now)) place) }
+    ensures { IfOk result (λ place. is_numbered_once (plain_op function.now) ≡ true → FirstAt (UsesItself (plain_op function.now)) (sites (plain_op function.now)) place) }
 {
     let all = operations(alloc, function)?;
     let ops = all.as_slice();

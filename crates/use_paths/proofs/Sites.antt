@@ -6,7 +6,7 @@ use Rattle.plain_tree.specs.Ops.{Op, op, Ops, end_of_ops, more_ops, Regions, end
 use Rattle.plain_tree.specs.Values.{blocks_values, op_values, ops_values, regions_values, types_of}
 use Rattle.rule_model.specs.Words.{AllOf, AnyOf, binds, numbers, results_of}
 use Rattle.rule_model.specs.Facts.{Holder}
-use Rattle.rule_model.specs.Formed.{is_formed_function}
+use Rattle.first_places.specs.Numbering.{is_numbered_once}
 use Rattle.rule_model.specs.Paths.{Either, Frame, Reach, Undefined}
 use Rattle.rule_model.specs.Sites.{Around, blocks_sites, frame_of, holds, op_sites, ops_sites, regions_sites, Site, sites}
 use Rattle.rule_model.proofs.Places.{InPlace}
@@ -18,7 +18,7 @@ use Rattle.use_paths.specs.Undefined.{UsesUndefined}
 use Rattle.use_paths.specs.Levels.{known_of, Missed, MissingIn, spot_of}
 use Rattle.use_paths.specs.Uses.{blocks_uses, Misses, op_uses, ops_uses, regions_uses, Use, use_at}
 use Rattle.use_paths.proofs.HomeLaws.{home_from, home_is, home_there}
-use Rattle.first_places.proofs.Once.{args_first, behind_blocks, behind_op, behind_ops, count_in, formed_once, own_counted, own_values, times}
+use Rattle.first_places.proofs.Once.{args_first, behind_blocks, behind_op, behind_ops, count_in, numbered_once, own_counted, own_values, times}
 use Rattle.use_paths.proofs.Paths.{missing_by, reach_by}
 
 -- In a region each value stands once
@@ -154,9 +154,9 @@ mutual
 
 -- A function
 
-pub undefined_at : (f : Op) (o : Option ℕ) → FirstAt Misses (op_uses [] f []) o → is_formed_function f ≡ true → FirstAt UsesUndefined (sites f) o
-undefined_at f o first formed =
-    let once = formed_once f formed in
+pub undefined_at : (f : Op) (o : Option ℕ) → FirstAt Misses (op_uses [] f []) o → is_numbered_once f ≡ true → FirstAt UsesUndefined (sites f) o
+undefined_at f o first numbered =
+    let once = numbered_once f numbered in
     let places = all_placed f once.apart in
     let single = op_single (types_of f) None end_of_blocks [] end_of_ops f [] [] once.values tt tt in
     first_at (sites f) o (all_fit (sites f) places single) (subst (λ us. FirstAt Misses us o) (op_same (types_of f) None end_of_blocks [] end_of_ops f []) first)

@@ -2,7 +2,7 @@
 
 ghost use Rattle.std.specs.Prelude.{◌≡◌, IfOk, true};
 ghost use Rattle.plain_tree.specs.Ops.{plain_op};
-ghost use Rattle.rule_model.specs.Formed.{is_formed_function};
+ghost use Rattle.first_places.specs.Numbering.{is_numbered_once};
 ghost use Rattle.rule_model.specs.Sites.{sites};
 ghost use Rattle.first_places.specs.First.{FirstAt};
 ghost use Rattle.use_paths.specs.Undefined.{UsesUndefined};
@@ -18,7 +18,7 @@ use tree_model::{NoMemory, OpTree};
 /// A number of a value that is defined behind the use's own place costs nothing; else each block that defines such a value is searched
 /// for once.
 pub fn first_undefined(alloc: Global, function: &OpTree) -> Result<Option<usize>, NoMemory>
-    ensures { IfOk result (λ place. is_formed_function (plain_op function.now) ≡ true → FirstAt UsesUndefined (sites (plain_op function.now)) place) }
+    ensures { IfOk result (λ place. is_numbered_once (plain_op function.now) ≡ true → FirstAt UsesUndefined (sites (plain_op function.now)) place) }
 {
     let place = first_missed(alloc, function)?;
     Ok(place)
