@@ -1,0 +1,13 @@
+pub mod Layers
+pub mod SizeLayers
+pub mod Going
+pub mod Behind
+pub mod SaysLaws
+pub mod TextLaws
+pub mod Parts
+pub mod WalkLaws
+pub mod RegionLaws
+pub mod PieceLaws
+pub mod LineLaws
+pub mod ListedLaws
+pub mod FunctionLaws
