@@ -3,7 +3,7 @@
 //! A case is a line `-- NAME: WORDS` with the words of the command, and behind it the text, up to the next such line. Where the name ends
 //! with `, cut` the text has no line feed at its end. What stands before the first case is a comment. A reply is a line `-- NAME: STATUS`,
 //! what went to standard output, and the lines of standard error, each behind `! `. The replies that must be printed were written by hand
-//! from docs/LANGUAGE.md, and not by these crates.
+//! from docs/LANGUAGE.md and docs/OPERATIONS.md, and not by these crates.
 #![tactic(auto)]
 
 mod cases;

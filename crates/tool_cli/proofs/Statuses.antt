@@ -6,7 +6,7 @@ use Rattle.tool_cli.specs.declared.status.Status.TheVariants.{Ok, Usage, Refused
 use Rattle.tool_cli.specs.Commands.{command_of}
 use Rattle.tool_cli.specs.Refusals.{limit_of, told}
 use Rattle.tool_cli.specs.Told.{Reply}
-use Rattle.tool_cli.specs.Replies.{Out, no_command, long_input, no_module, not_built, a_module}
+use Rattle.tool_cli.specs.Replies.{Out, no_command, long_input, no_module, unverified, not_built, a_module}
 
 -- a reply tells of no fault, and a command that is no command is the one that is told so
 abbrev pub IsAnswer : List (List ℕ) → Status → Type 0
@@ -27,8 +27,9 @@ pub answers : (words : List (List ℕ)) (bytes : List ℕ) (r : Reply) → Out w
 answers words bytes _ (no_command none) = none
 answers words bytes _ (long_input _ _ _) = tt
 answers words bytes _ (no_module _ place kind _ _ _) = told_answers words place kind (limit_of kind)
-answers words bytes _ (not_built _ _ _ _ _ _ _) = tt
-answers words bytes _ (a_module _ _ _ _ _ _ _) = tt
+answers words bytes _ (unverified _ _ _ _ _ _ _) = tt
+answers words bytes _ (not_built _ _ _ _ _ _ _ _) = tt
+answers words bytes _ (a_module _ _ _ _ _ _ _ _) = tt
 
 pub no_fault : (words : List (List ℕ)) (s : Status) → IsAnswer words s → s ≡ ReadFault → ⊥
 no_fault words s is e = let P : Status → Type 0 = IsAnswer words in subst P e is

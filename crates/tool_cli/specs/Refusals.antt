@@ -1,5 +1,15 @@
--- How a refusal of the text is told.
-use Rattle.std.specs.Prelude.{ℕ, List, ◌++◌, Option, Some, None, codes, decimal}
+-- How a refusal of the text, or of the module, is told.
+use Rattle.std.specs.Prelude.{ℕ, List, [], ◌++◌, Option, Some, None, unwrap_or, codes, decimal}
+use Rattle.std.specs.List.{slice_get}
+use Rattle.tree_model.specs.declared.op_tree.FuncTree.{FuncTree}
+use Rattle.tree_model.specs.declared.op_tree.ModuleTree.{ModuleTree}
+use Rattle.tree_model.specs.declared.op_tree.OpTree.{out-OpTree}
+use Rattle.plain_tree.specs.Attrs.{plain_entries}
+use Rattle.rule_model.specs.declared.rules.Rule.{Rule}
+use Rattle.rule_model.specs.declared.rules.Rule.TheVariants as rules
+use Rattle.rule_model.specs.Facts.{name_in}
+use Rattle.ir_verifier.specs.declared.broken.BrokenRule.{BrokenRule}
+use Rattle.ordered_diags.specs.Failures.{symbol_text}
 use Rattle.text_kinds.specs.declared.found.Kind.{Kind}
 use Rattle.text_kinds.specs.declared.found.Kind.TheVariants as kinds
 use Rattle.tool_cli.specs.declared.status.Status.TheVariants.{Refused, Limit}
@@ -57,3 +67,31 @@ told place kind None = refusal Refused (codes "refused: text at " ++ decimal pla
 -- a text that is refused at this byte as of this kind
 abbrev pub refused : ℕ → Kind → Reply
 refused place kind = told place kind (limit_of kind)
+
+-- the names of all rules
+abbrev pub rule_name : Rule → List ℕ
+rule_name rules.Operands = codes "Operands"
+rule_name rules.Results = codes "Results"
+rule_name rules.Regions = codes "Regions"
+rule_name rules.Attribute = codes "Attribute"
+rule_name rules.Successors = codes "Successors"
+rule_name rules.Terminator = codes "Terminator"
+rule_name rules.Signature = codes "Signature"
+rule_name rules.Symbol = codes "Symbol"
+rule_name rules.Reserved = codes "Reserved"
+rule_name rules.ValueType = codes "ValueType"
+rule_name rules.Defined = codes "Defined"
+rule_name rules.OwnUse = codes "OwnUse"
+
+-- the name of a function, an empty one where it has none or it is no text
+abbrev pub name_of : FuncTree → List ℕ
+name_of f = unwrap_or (name_in (plain_entries (out-OpTree f.op).props)) []
+
+abbrev pub function_name : Option FuncTree → List ℕ
+function_name None = []
+function_name (Some f) = name_of f
+
+-- a module that breaks a rule: the function as a symbol, the number of the operation and the rule
+abbrev pub broken : ModuleTree → BrokenRule → Reply
+broken m b =
+    refusal Refused (codes "refused: " ++ symbol_text (function_name (slice_get m.funcs b.function)) ++ codes " operation " ++ decimal b.operation ++ codes ": " ++ rule_name b.rule)

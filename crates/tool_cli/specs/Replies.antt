@@ -2,6 +2,9 @@
 use Rattle.std.specs.Prelude.{◌≡◌, ℕ, ◌^◌, ◌<◌, ◌≤◌, List, [], length, codes, Some, None}
 use Rattle.text_kinds.specs.declared.found.Kind.{Kind}
 use Rattle.tree_model.specs.declared.op_tree.ModuleTree.{ModuleTree}
+use Rattle.plain_tree.specs.Ops.{plain_module}
+use Rattle.ir_verifier.specs.declared.broken.BrokenRule.{BrokenRule}
+use Rattle.ir_verifier.specs.Telling.{Fails, Passes}
 use Rattle.text_model.specs.Printed.{module_text}
 use Rattle.tree_reading.specs.Reading.{Reads, ReadsNot}
 use Rattle.conv_driver.specs.Modules.{AllFirst}
@@ -10,7 +13,7 @@ use Rattle.tool_cli.specs.declared.command.Command.{Command}
 use Rattle.tool_cli.specs.declared.command.Pass.TheVariants.{ConvertArith}
 use Rattle.tool_cli.specs.Commands.{command_of}
 use Rattle.tool_cli.specs.Passes.{Makes}
-use Rattle.tool_cli.specs.Refusals.{refused}
+use Rattle.tool_cli.specs.Refusals.{broken, refused}
 use Rattle.tool_cli.specs.Told.{Reply, refusal}
 
 -- the module on `out`, and nothing on `diag`
@@ -31,9 +34,12 @@ pub data Out (words : List (List ℕ)) (bytes : List ℕ) : Reply → Type 0 whe
   -- the text is no module
   no_module : (command : Command) (place : ℕ) (kind : Kind) → command_of words ≡ Some command → length bytes ≤ input_limit → ReadsNot bytes command.allowed place kind
       → Out words bytes (refused place kind)
+  -- the module breaks a rule
+  unverified : (command : Command) (source : ModuleTree) (rule : BrokenRule) → command_of words ≡ Some command → length bytes ≤ input_limit → Reads bytes command.allowed source
+      → Fails (plain_module source) rule → Out words bytes (broken source rule)
   -- the pass is for other modules
   not_built : (command : Command) (source : ModuleTree) → command_of words ≡ Some command → length bytes ≤ input_limit → Reads bytes command.allowed source
-      → command.pass ≡ ConvertArith → (AllFirst source.funcs → ⊥) → Out words bytes (refusal Refused (codes "refused: text at 0: NotBuilt"))
+      → Passes (plain_module source) → command.pass ≡ ConvertArith → (AllFirst source.funcs → ⊥) → Out words bytes (refusal Refused (codes "refused: text at 0: NotBuilt"))
   -- the module behind the pass
   a_module : (command : Command) (source made : ModuleTree) → command_of words ≡ Some command → length bytes ≤ input_limit → Reads bytes command.allowed source
-      → Makes command.pass source made → Out words bytes (printed made)
+      → Passes (plain_module source) → Makes command.pass source made → Out words bytes (printed made)

@@ -1,14 +1,22 @@
-//! How a refusal of the text is told.
+//! How a refusal of the text, or of the module, is told.
 
 ghost use Rattle.std.specs.Prelude.{◌≡◌, ◌++◌, codes, decimal, IfOk, option_copied, option_map};
+ghost use Rattle.std.specs.List.{slice_get};
+ghost use Rattle.ordered_diags.specs.Failures.{symbol_text};
+ghost use Rattle.tool_cli.specs.Refusals as told;
 ghost use Rattle.tool_cli.specs.Refusals.{kind_name, limit_of, refused};
 ghost use Rattle.tool_cli.specs.Told.{refusal};
 
 use crate::prepared::{Prepared, refuse_line};
 use crate::status::Status;
+use ir_verifier::BrokenRule;
+use rule_facts::name_in;
+use rule_model::Rule;
+use sqlite_items::at;
 use std::alloc::Global;
 use text_kinds::Kind;
-use tree_model::{Bytes, NoMemory};
+use tree_model::{Bytes, FuncTree, ModuleTree, NoMemory};
+use tree_text::put_name;
 
 /// The name and the number of a limit that a text passes.
 fn limit_of(kind: Kind) -> Option<&'static str>
@@ -91,5 +99,68 @@ fn refused_at(alloc: Global, place: usize, name: &str) -> Result<Prepared, NoMem
     line.put_number(place as u64)?;
     line.put(b": ")?;
     line.put(name.as_bytes())?;
+    refuse_line(alloc, Status::Refused, line)
+}
+
+/// The name of a rule.
+fn rule_name(rule: Rule) -> &'static str
+    ensures { result.now ≡ told.rule_name rule }
+{
+    match rule {
+        Rule::Operands => "Operands",
+        Rule::Results => "Results",
+        Rule::Regions => "Regions",
+        Rule::Attribute => "Attribute",
+        Rule::Successors => "Successors",
+        Rule::Terminator => "Terminator",
+        Rule::Signature => "Signature",
+        Rule::Symbol => "Symbol",
+        Rule::Reserved => "Reserved",
+        Rule::ValueType => "ValueType",
+        Rule::Defined => "Defined",
+        Rule::OwnUse => "OwnUse",
+    }
+}
+
+/// The name of a function, an empty one where it has none.
+fn name_of(func: &FuncTree) -> &[u8]
+    ensures { result.now ≡ told.name_of func.now }
+{
+    match name_in(func.op.props.as_slice()) {
+        Some(name) => name,
+        None => &[],
+    }
+}
+
+/// The name of the function at this place of a module.
+fn function_name(tree: &ModuleTree, place: usize) -> &[u8]
+    ensures { result.now ≡ told.function_name (slice_get tree.now.funcs place) }
+{
+    match at(tree.funcs.as_slice(), place) {
+        Some(func) => name_of(func),
+        None => &[],
+    }
+}
+
+/// The function and the operation that are refused.
+fn place_of(alloc: Global, name: &[u8], operation: usize) -> Result<Bytes, NoMemory>
+    ensures { IfOk result (λ line. line ≡ codes "refused: " ++ symbol_text name.now ++ codes " operation " ++ decimal operation ++ codes ": ") }
+{
+    let mut line = Bytes::new(alloc);
+    line.put(b"refused: @")?;
+    put_name(&mut line, name)?;
+    line.put(b" operation ")?;
+    line.put_number(operation as u64)?;
+    line.put(b": ")?;
+    Ok(line)
+}
+
+/// The reply to a module that breaks a rule: the function, the number of the operation and the rule.
+pub fn broken(alloc: Global, tree: &ModuleTree, rule: BrokenRule) -> Result<Prepared, NoMemory>
+    ensures { IfOk result (λ p. p ≡ told.broken tree.now rule) }
+{
+    let name = function_name(tree, rule.function);
+    let mut line = place_of(alloc, name, rule.operation)?;
+    line.put(rule_name(rule.rule).as_bytes())?;
     refuse_line(alloc, Status::Refused, line)
 }

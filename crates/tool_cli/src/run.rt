@@ -3,6 +3,8 @@
 ghost use Rattle.std.specs.Prelude.{◌≡◌, ◌⊎◌, ℕ, ◌^◌, ◌≤◌, List, [], length, ⊤, Some, None, IfOk, IsErrOf, OnOk, OnErr};
 ghost use Rattle.std.specs.Io.KnownBytes.{IsAtEnd, Keeps};
 ghost use Rattle.edge_kit.specs.Edges.{Rose};
+ghost use Rattle.plain_tree.specs.Ops.{plain_module};
+ghost use Rattle.ir_verifier.specs.Telling.{Passes};
 ghost use Rattle.tool_cli.specs.Told.{Reply};
 ghost use Rattle.tool_cli.specs.Replies.{Out};
 ghost use Rattle.tree_reading.specs.Reading.{Reads};
@@ -13,10 +15,11 @@ use crate::command::{Command, command_of};
 use crate::edges::{read_input, write_all};
 use crate::passes::made_by;
 use crate::prepared::{Prepared, refuse, succeed};
-use crate::refusals::refused;
+use crate::refusals::{broken, refused};
 use crate::status::Status;
 use edge_kit::{Sink, SinkFault, Source, SureSink, SureSource, Words};
 use generic_printer::print_tree;
+use ir_verifier::verify;
 use std::alloc::{AllocError, Global};
 use tree_model::ModuleTree;
 use tree_reader::{ReadRefusal, read_tree};
@@ -150,6 +153,24 @@ fn reply_to_module(
 ) -> Result<Prepared, AllocError>
     requires short { length text.now ≤ 2 ^ 24 }
     requires read { Reads text.now command.allowed source }
+    ensures { (words : List (List ℕ)) → command_of words ≡ Some command → IfOk result (λ p. Out words text.now p) }
+{
+    match verify(alloc, &source)? {
+        Some(rule) => broken(alloc, &source, rule),
+        None => reply_to_verified(alloc, command, text, source),
+    }
+}
+
+// The reply of a command to the module of a text that breaks no rule.
+fn reply_to_verified(
+    alloc: Global,
+    command: Command,
+    text: &[u8],
+    source: ModuleTree,
+) -> Result<Prepared, AllocError>
+    requires short { length text.now ≤ 2 ^ 24 }
+    requires read { Reads text.now command.allowed source }
+    requires passes { Passes (plain_module source) }
     ensures { (words : List (List ℕ)) → command_of words ≡ Some command → IfOk result (λ p. Out words text.now p) }
 {
     match made_by(alloc, command.pass, source)? {
