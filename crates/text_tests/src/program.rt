@@ -145,13 +145,14 @@ fn a_text_that_is_no_module_is_told_by_its_byte_and_kind(rt: HostRuntime) -> Res
 // A text of so many regions in one another, the module's among them.
 fn nested(alloc: Global, depth: usize) -> Result<String, AllocError> {
     let mut text = String::new(alloc);
-    text.push_str("\"func.func\"() ({ ")?;
+    text.push_str("\"func.func\"() <{function_type = () -> (), sym_name = \"f\"}> ({ ")?;
     for _ in 2..depth {
         text.push_str("\"t.x\"() ({ ")?;
     }
-    for _ in 1..depth {
+    for _ in 2..depth {
         text.push_str("}) : () -> () ")?;
     }
+    text.push_str("\"func.return\"() : () -> () }) : () -> ()")?;
     Ok(text)
 }
 

@@ -77,12 +77,13 @@ pub const KINDS: &str = "#width = array<i8: 255, -1>
 !pair = !llvm.struct<(i32, !llvm.ptr)>
 \"func.func\"() <{sym_name = \"f\", function_type = (!pair) -> (), \"odd name\" = #width}> ({
 ^bb0(%p: !pair):
-  %t:2 = \"t.two\"(%p)[^last] <{flag, z = true, a = [-5 : i8, @\"a b\", @c, #t.b<x, y>], b = {k = \"a\\tb\", d = memref<2x?xindex>}}> ({
+  %t:2 = \"t.two\"(%p) <{flag, z = true, a = [-5 : i8, @\"a b\", @c, #t.b<x, y>], b = {k = \"a\\tb\", d = memref<2x?xindex>, e = () -> i32}}> ({
     \"t.in\"() : () -> ()
   }, {
-  }) {unit} : (!pair) -> (i1, () -> i32)
+  }) {unit} : (!pair) -> (i1, i32)
+  \"cf.br\"()[^last] : () -> ()
 ^last:
-  \"t.use\"(%t#1, %t) : (() -> i32, i1) -> ()
+  \"t.use\"(%t#1, %t) : (i32, i1) -> ()
 }) : () -> ()
 ";
 
@@ -90,12 +91,13 @@ pub const KINDS: &str = "#width = array<i8: 255, -1>
 pub const KINDS_PRINTED: &str = "\"builtin.module\"() ({
   \"func.func\"() <{function_type = (!llvm.struct<(i32, ptr)>) -> (), \"odd name\" = array<i8: -1, -1>, sym_name = \"f\"}> ({
   ^bb0(%arg0: !llvm.struct<(i32, ptr)>):
-    %0:2 = \"t.two\"(%arg0)[^bb1] <{a = [-5 : i8, @\"a b\", @c, #t.b<x, y>], b = {d = memref<2x?xindex>, k = \"a\\09b\"}, flag, z = true}> ({
+    %0:2 = \"t.two\"(%arg0) <{a = [-5 : i8, @\"a b\", @c, #t.b<x, y>], b = {d = memref<2x?xindex>, e = () -> i32, k = \"a\\09b\"}, flag, z = true}> ({
       \"t.in\"() : () -> ()
     }, {
-    }) {unit} : (!llvm.struct<(i32, ptr)>) -> (i1, () -> i32)
+    }) {unit} : (!llvm.struct<(i32, ptr)>) -> (i1, i32)
+    \"cf.br\"()[^bb1] : () -> ()
   ^bb1:
-    \"t.use\"(%0#1, %0#0) : (() -> i32, i1) -> ()
+    \"t.use\"(%0#1, %0#0) : (i32, i1) -> ()
   }) : () -> ()
 }) : () -> ()
 ";
