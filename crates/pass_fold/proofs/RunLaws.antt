@@ -1,8 +1,9 @@
 -- Steps of runs, over plain variables.
-use Rattle.std.proofs.Common.{◌≡◌, ℕ, ◌+◌, Bool, true, false, List, [], ◌∷◌, ◌++◌, refl, sym, ap, ◌∙◌, subst, map, append_assoc, length, get_or, drop, drop-cons, add-one, ◌<◌, ◌≤◌, zero, suc, arith}
+use Rattle.std.proofs.Common.{◌≡◌, ℕ, ◌+◌, Bool, true, false, List, [], ◌∷◌, ◌++◌, refl, sym, ap, ◌∙◌, subst, map, append_assoc, length, get_or, drop, drop-cons, add-one, ◌<◌, ◌≤◌}
 use Rattle.std.specs.Prelude.{Some, None, Result, Ok, Err, if◌then◌else◌, ◌↔◌}
 use Rattle.std.specs.Bool.{IsTrue}
 use Rattle.std.proofs.lemmas.Bool.{false≢true}
+use Rattle.std.proofs.lemmas.List.{append-nil, drop_all}
 use Rattle.pattern_model.specs.ModuleStep.{module_step}
 use Rattle.tree_model.specs.declared.op_tree.OpTree.{OpTree}
 use Rattle.tree_model.specs.declared.op_tree.FuncTree.{FuncTree}
@@ -59,14 +60,8 @@ err_step bits k q d us f now there e r h st err same inv =
     pass_fails bits k q (get_or us q d) (drop (q + 1) us) us f now (failure_view e) (subst (StepIs (get_or us q d).pass bits k q now) err st')
     (subst (λ xs. Onward bits k q xs now us f) (next_of us q d h) inv)
 
-none_left : {A : Type 0} (xs : List A) (i : ℕ) → length xs ≤ i → drop i xs ≡ []
-none_left [] zero h = refl
-none_left [] (suc i) h = refl
-none_left (x ∷ xs) zero h = absurd (omega arith)
-none_left (x ∷ xs) (suc i) h = none_left xs i (omega arith)
-
 pub end_step : (bits k q : ℕ) (us : List PassUse) (f now : Op) → length us ≤ q → Onward bits k q (drop q us) now us f → PassesRun bits k 0 us f (record { func = now; failed = None })
-end_step bits k q us f now h inv = passes_end bits k q us f now (subst (λ xs. Onward bits k q xs now us f) (none_left us q h) inv)
+end_step bits k q us f now h inv = passes_end bits k q us f now (subst (λ xs. Onward bits k q xs now us f) (drop_all q us h) inv)
 
 -- Functions
 
@@ -84,20 +79,10 @@ function_goes_on bits runs us k f rest all done now t h s run =
     subst (λ x. FunctionsRun bits runs us 0 all (joined x s)) (sym t.is)
     (subst (FunctionsRun bits runs us 0 all) (joined_last done t.ran s) (h (with_ran t.ran s) (one_function k f rest t.ran s t.run run)))
 
-nothing_joined : (s : Stood) → joined (record { funcs = []; failures = [] }) s ≡ s
-nothing_joined s = refl
-
-pub functions_begin : (bits : ℕ) (runs : Op → Bool) (us : List PassUse) (all : List Op) → Further bits runs us 0 all (record { funcs = []; failures = [] }) all
-functions_begin bits runs us all s run = run
-
-append_nothing : {A : Type 0} (xs : List A) → xs ++ [] ≡ xs
-append_nothing [] = refl
-append_nothing (x ∷ xs) = ap (λ ys. x ∷ ys) (append_nothing xs)
-
 pub functions_end : (bits : ℕ) (runs : Op → Bool) (us : List PassUse) (k : ℕ) (all : List Op) (done : Stood) → Further bits runs us k [] done all → FunctionsRun bits runs us 0 all done
 functions_end bits runs us k all done h =
     subst (FunctionsRun bits runs us 0 all)
-    (ap (λ fs. record { funcs = fs; failures = done.failures ++ [] }) (append_nothing done.funcs) ∙ ap (λ es. record { funcs = done.funcs; failures = es }) (append_nothing done.failures))
+    (ap (λ fs. record { funcs = fs; failures = done.failures ++ [] }) (append-nil done.funcs) ∙ ap (λ es. record { funcs = done.funcs; failures = es }) (append-nil done.failures))
     (h (record { funcs = []; failures = [] }) (no_functions k))
 
 pub function_step : (bits : ℕ) (runs : Op → Bool) (us : List PassUse) (k : ℕ) (d : FuncTree) (fs : List FuncTree) (done now : Stood) → k < length fs → RunsLast (runs (plain_func (get_or fs k d))) bits k us (plain_func (get_or fs k d)) done now
@@ -108,7 +93,7 @@ function_step bits runs us k d fs done now h t inv =
 
 pub functions_stop : (bits : ℕ) (runs : Op → Bool) (us : List PassUse) (k : ℕ) (fs : List FuncTree) (done : Stood) → length fs ≤ k → Further bits runs us k (map plain_func (drop k fs)) done (map plain_func fs)
     → FunctionsRun bits runs us 0 (map plain_func fs) done
-functions_stop bits runs us k fs done h inv = functions_end bits runs us k (map plain_func fs) done (subst (λ xs. Further bits runs us k (map plain_func xs) done (map plain_func fs)) (none_left fs k h) inv)
+functions_stop bits runs us k fs done h inv = functions_end bits runs us k (map plain_func fs) done (subst (λ xs. Further bits runs us k (map plain_func xs) done (map plain_func fs)) (drop_all k fs h) inv)
 
 -- Stages
 
@@ -154,9 +139,6 @@ pub record SoFar (bits : ℕ) (rest : List Stage) (now : ModuleTree) (all : List
   pub props : now.props ≡ old.props
   pub attrs : now.attrs ≡ old.attrs
 
-pub begins : (bits : ℕ) (all : List Stage) (old : ModuleTree) → SoFar bits all old all old
-begins bits all old = record { later = λ s run. run; props = refl; attrs = refl }
-
 pub stage_goes_on : (bits : ℕ) (stage : Stage) (rest all : List Stage) (old now next : ModuleTree) → StageIs bits stage now next [] → SoFar bits (stage ∷ rest) now all old → SoFar bits rest next all old
 stage_goes_on bits stage rest all old now next t h = record {
   later = λ s run. h.later s (goes_on stage rest (map plain_func now.funcs) (stood_as next []) s t.runs refl run);
@@ -199,4 +181,4 @@ pub no_more : (p : Pipeline) (bits : ℕ) (ss : List Stage) (i : ℕ) (old now :
     → IsFold p (plain_module old) (folded_view (record { module_behind = now; failures = failures }))
 no_more p bits ss i old now failures wide same h none inv =
     subst (λ es. IsFold p (plain_module old) (folded_view (record { module_behind = now; failures = es }))) (sym none)
-    (stages_end p old now (as_pipeline p bits ss [] now old wide same (subst (λ xs. SoFar bits xs now ss old) (none_left ss i h) inv)))
+    (stages_end p old now (as_pipeline p bits ss [] now old wide same (subst (λ xs. SoFar bits xs now ss old) (drop_all i ss h) inv)))
