@@ -36,35 +36,35 @@ fn put_all(funcs: &mut FuncList, mut more: FuncList) -> Result<(), NoMemory>
 
 /// Puts a declaration of each of `malloc`, `free` and `aligned_alloc`, in this order, behind the functions, where an `llvm.call`
 /// of the module names it and no function has that name. Answers how many were put. A refusal leaves the module as it was.
-pub fn declare_allocators(alloc: Global, module: &mut ModuleTree) -> Result<u32, NoMemory>
-    ensures funcs { OnOk result (map plain_func module.new.funcs ≡ allocators_declared (map plain_func module.old.funcs)) }
-    ensures front { take (length module.old.funcs) module.new.funcs ≡ module.old.funcs }
-    ensures count { IfOk result (λ n. length module.new.funcs ≡ length module.old.funcs + n) }
-    ensures props { module.new.props ≡ module.old.props }
-    ensures attrs { module.new.attrs ≡ module.old.attrs }
-    ensures kept { OnErr result (module.new ≡ module.old) }
+pub fn declare_allocators(alloc: Global, tree: &mut ModuleTree) -> Result<u32, NoMemory>
+    ensures funcs { OnOk result (map plain_func tree.new.funcs ≡ allocators_declared (map plain_func tree.old.funcs)) }
+    ensures front { take (length tree.old.funcs) tree.new.funcs ≡ tree.old.funcs }
+    ensures count { IfOk result (λ n. length tree.new.funcs ≡ length tree.old.funcs + n) }
+    ensures props { tree.new.props ≡ tree.old.props }
+    ensures attrs { tree.new.attrs ≡ tree.old.attrs }
+    ensures kept { OnErr result (tree.new ≡ tree.old) }
 {
-    let all = missing(alloc, module.funcs.as_slice())?;
+    let all = missing(alloc, tree.funcs.as_slice())?;
     let Ok(count) = u32::try_from(all.len()) else {
         return Err(AllocError);
     };
-    put_all(&mut module.funcs, all)?;
+    put_all(&mut tree.funcs, all)?;
     Ok(count)
 }
 
 /// The step of a pass on the module: `finalize-memref-to-llvm` and `full-convert-to-llvm` declare the allocation functions, the
 /// others have none. Answers how many functions were put. A refusal leaves the module as it was.
-pub fn module_step(alloc: Global, pass: PassName, module: &mut ModuleTree) -> Result<u32, NoMemory>
-    ensures funcs { OnOk result (map plain_func module.new.funcs ≡ step_of pass (map plain_func module.old.funcs)) }
-    ensures front { take (length module.old.funcs) module.new.funcs ≡ module.old.funcs }
-    ensures count { IfOk result (λ n. length module.new.funcs ≡ length module.old.funcs + n) }
-    ensures props { module.new.props ≡ module.old.props }
-    ensures attrs { module.new.attrs ≡ module.old.attrs }
-    ensures kept { OnErr result (module.new ≡ module.old) }
+pub fn module_step(alloc: Global, pass: PassName, tree: &mut ModuleTree) -> Result<u32, NoMemory>
+    ensures funcs { OnOk result (map plain_func tree.new.funcs ≡ step_of pass (map plain_func tree.old.funcs)) }
+    ensures front { take (length tree.old.funcs) tree.new.funcs ≡ tree.old.funcs }
+    ensures count { IfOk result (λ n. length tree.new.funcs ≡ length tree.old.funcs + n) }
+    ensures props { tree.new.props ≡ tree.old.props }
+    ensures attrs { tree.new.attrs ≡ tree.old.attrs }
+    ensures kept { OnErr result (tree.new ≡ tree.old) }
 {
     match pass {
         PassName::FinalizeMemrefToLlvm | PassName::FullConvertToLlvm => {
-            declare_allocators(alloc, module)
+            declare_allocators(alloc, tree)
         }
         PassName::ConvertScfToCf
         | PassName::ArithExpand

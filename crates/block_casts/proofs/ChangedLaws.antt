@@ -1,11 +1,11 @@
 -- What is said of a table stays so for those that extend it; the arguments of a block one by one.
-use Rattle.std.proofs.Common.{◌≡◌, ℕ, suc, ◌+◌, Bool, true, false, List, [], ◌∷◌, ◌++◌, map, Option, Some, None, refl, sym, ap, ◌∙◌, arith, length, take, drop, get_or, ◌<◌, ◌≤◌}
+use Rattle.std.proofs.Common.{◌≡◌, ℕ, ◌+◌, List, [], ◌∷◌, ◌++◌, map, reverse, Option, Some, None, refl, sym, ap, ◌∙◌, arith, length, drop, get_or, ◌<◌, ◌≤◌}
 use Rattle.std.specs.Option.{option_map}
 use Rattle.std.proofs.lemmas.Grind.{common_steps}
-use Rattle.std.proofs.lemmas.List.{append_assoc, at_drop_all, drop_more, map-append, take_more}
+use Rattle.std.proofs.lemmas.List.{append_assoc, at_drop_all, drop_more, reverse-append}
 use Rattle.tree_model.specs.declared.type_tree.TypeTree.{TypeTree}
-use Rattle.plain_tree.specs.Types.{PlainType, plain_type, type_tree}
-use Rattle.plain_tree.specs.Ops.{Op, Ops, end_of_ops, more_ops, Values, ops_in, plain_values}
+use Rattle.plain_tree.specs.Types.{PlainType, plain_type}
+use Rattle.plain_tree.specs.Ops.{Op, Ops, more_ops, Values, ops_in, plain_values}
 use Rattle.plain_tree.proofs.TypeOpens.{plain_again}
 use Rattle.type_table.specs.Trees.{tree_or_none}
 use Rattle.conversion_model.specs.Conversion.{cast_back, cast_op, casts_back, new_argument, new_arguments}
@@ -123,17 +123,16 @@ casts_done bits label i j t args done same end was = λ v e more.
     let new : ℕ → ℕ = λ k. (supply_of v).argument label k in
     sym (at_drop_all (λ xs. in_front done (casts_back bits new i (plain_values xs) more)) args i (omega (arith, same, end))) ∙ was v e more
 
--- one item more of a list that is made of another one
-pub item_step : {A B : Type 0} (view : A → B) (f : (ℕ → ℕ → ℕ) → B → B) (t u : Numbering) (front made after : List B) (ys : List A) (i : ℕ) (y : A) (x : B) → i < length ys → y ≡ get_or ys i y → Extends t u
-    → after ≡ made ++ x ∷ [] → Said u (λ n. x ≡ f n (view y)) → Said t (λ n. made ≡ front ++ map (f n) (map view (take i ys)))
-    → Said u (λ n. after ≡ front ++ map (f n) (map view (take (i + 1) ys)))
-item_step view f t u front made after ys i y x more is extends put said was = λ v e.
+-- one item more of a list that is made of another one, of which those that are left stand last first
+pub item_step : {A B : Type 0} (view : A → B) (f : (ℕ → ℕ → ℕ) → B → B) (t u : Numbering) (made after all : List B) (left rest : List A) (y : A) (x : B) → left ≡ rest ++ y ∷ [] → Extends t u
+    → after ≡ made ++ x ∷ [] → Said u (λ n. x ≡ f n (view y)) → Said t (λ n. made ++ map (f n) (map view (reverse left)) ≡ map (f n) all)
+    → Said u (λ n. after ++ map (f n) (map view (reverse rest)) ≡ map (f n) all)
+item_step view f t u made after all left rest y x last extends put said was = λ v e.
     let n : ℕ → ℕ → ℕ = λ label k. (supply_of v).argument label k in
-    put ∙ ap (λ xs. xs ++ x ∷ []) (was v (extends_on t u v extends e)) ∙ append_assoc front (map (f n) (map view (take i ys))) (x ∷ [])
-    ∙ ap (λ xs. front ++ xs)
-    (ap (λ z. map (f n) (map view (take i ys)) ++ z ∷ []) (said v e)
-    ∙ sym (map-append (f n) (map view (take i ys)) (view y ∷ []))
-    ∙ ap (map (f n)) (sym (map-append view (take i ys) (y ∷ [])))
-    ∙ ap (λ zs. map (f n) (map view zs)) (ap (λ z. take i ys ++ z ∷ []) is ∙ sym (take_more ys i y more)))
+    ap (λ xs. xs ++ map (f n) (map view (reverse rest))) put
+    ∙ append_assoc made (x ∷ []) (map (f n) (map view (reverse rest)))
+    ∙ ap (λ z. made ++ z ∷ map (f n) (map view (reverse rest))) (said v e)
+    ∙ ap (λ ys. made ++ map (f n) (map view ys)) (sym (ap reverse last ∙ reverse-append rest (y ∷ [])))
+    ∙ was v (extends_on t u v extends e)
 
 pub ruleset arg_laws = (common_steps, values_more, extends_itself)

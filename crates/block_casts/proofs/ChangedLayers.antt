@@ -1,17 +1,22 @@
 -- Each layer of a tree whose blocks have arguments in converted types.
-use Rattle.std.proofs.Common.{◌≡◌, ℕ, Bool, true, false, List, [], ◌∷◌, ◌++◌, map, refl, sym, ap, ◌∙◌}
+use Rattle.std.proofs.Common.{◌≡◌, ℕ, ◌==◌, Bool, true, false, List, [], ◌∷◌, ◌++◌, length, map, reverse, refl, sym, ap, ◌∙◌, true≢false}
+use Rattle.std.specs.Prelude.{◌&&◌}
+use Rattle.std.specs.List.{list_all}
+use Rattle.std.proofs.lemmas.Bool.Decides.{Decides-eqb}
+use Rattle.std.proofs.lemmas.List.{append_assoc, nil_from_length, reverse-append}
 use Rattle.std.proofs.lemmas.Grind.{common_steps}
 use Rattle.tree_model.specs.declared.op_tree.OpTree.{OpTree, out-OpTree}
 use Rattle.tree_model.specs.declared.op_tree.BlockTree.{BlockTree, out-BlockTree, fold_out-BlockTree}
 use Rattle.tree_model.specs.declared.op_tree.RegionTree.{RegionTree, out-RegionTree, fold_out-RegionTree}
-use Rattle.plain_tree.specs.Attrs.{Entries, plain_entries}
-use Rattle.plain_tree.specs.Ops.{Op, op, Ops, end_of_ops, more_ops, Regions, end_of_regions, region, Blocks, end_of_blocks, block, PlainBlock, Values, block_at, op_at, region_at, blocks_in, ops_in, regions_in, plain_op, plain_values}
+use Rattle.plain_tree.specs.Attrs.{plain_entries}
+use Rattle.plain_tree.specs.Ops.{Op, op, Ops, more_ops, region, Blocks, block, PlainBlock, Values, block_at, op_at, region_at, blocks_in, ops_in, regions_in, plain_op, plain_values}
 use Rattle.conversion_model.specs.Conversion.{blocks_blocks, casts_back, new_arguments, op_blocks, ops_blocks, regions_blocks}
 use Rattle.tree_uses.specs.Edited.{op_from, plain_block, plain_region}
 use Rattle.tree_uses.proofs.Layers.{op_plain_at}
-use Rattle.new_numbers.proofs.PlaceLaws.{extends_itself}
+use Rattle.new_numbers.specs.Tables.{Extends, Numbering, supply_of}
+use Rattle.new_numbers.proofs.PlaceLaws.{extends_itself, extends_on}
 use Rattle.block_casts.proofs.ChangedLaws.{ops_front}
-use Rattle.block_casts.specs.Changed.{block_changed, blocks_changed, in_front, region_changed}
+use Rattle.block_casts.specs.Changed.{Said, block_changed, blocks_changed, has_none, in_front, region_changed}
 
 changed_regions : (bits : ℕ) (new : ℕ → ℕ → ℕ) (rs : List Blocks) → regions_blocks bits new (regions_in rs) ≡ regions_in (map (region_changed bits new) rs)
 unfolding region_changed
@@ -71,21 +76,45 @@ later_block_at bits new b =
       ops = casts_back bits (new (out-BlockTree b).label) 0 (plain_values (out-BlockTree b).args) os;
     }) (changed_ops bits new (map plain_op (out-BlockTree b).ops))
 
--- by parts
-pub op_parts : (bits : ℕ) (n : ℕ → ℕ → ℕ) (o : OpTree) (p : Op) (name : List ℕ) (props attrs : Entries) (results : Values) (operands successors : List ℕ) (regions : List Blocks)
-    → p ≡ op_from name props attrs results operands regions successors → name ≡ (out-OpTree o).name → props ≡ plain_entries (out-OpTree o).props → attrs ≡ plain_entries (out-OpTree o).attrs
-    → results ≡ plain_values (out-OpTree o).results → operands ≡ (out-OpTree o).operands → regions ≡ map (region_changed bits n) (map plain_region (out-OpTree o).regions) → successors ≡ (out-OpTree o).successors
-    → p ≡ op_blocks bits n (plain_op o)
-op_parts bits n o p name props attrs results operands successors regions made names prop attr values uses inner labels =
-    made ∙ ap (λ x. op_from x props attrs results operands regions successors) names
-    ∙ ap (λ x. op_from (out-OpTree o).name x attrs results operands regions successors) prop
-    ∙ ap (λ x. op_from (out-OpTree o).name (plain_entries (out-OpTree o).props) x results operands regions successors) attr
-    ∙ ap (λ x. op_from (out-OpTree o).name (plain_entries (out-OpTree o).props) (plain_entries (out-OpTree o).attrs) x operands regions successors) values
-    ∙ ap (λ x. op_from (out-OpTree o).name (plain_entries (out-OpTree o).props) (plain_entries (out-OpTree o).attrs) (plain_values (out-OpTree o).results) x regions successors) uses
-    ∙ ap (λ x. op_from (out-OpTree o).name (plain_entries (out-OpTree o).props) (plain_entries (out-OpTree o).attrs) (plain_values (out-OpTree o).results) (out-OpTree o).operands x successors) inner
-    ∙ ap (λ x. op_from (out-OpTree o).name (plain_entries (out-OpTree o).props) (plain_entries (out-OpTree o).attrs) (plain_values (out-OpTree o).results) (out-OpTree o).operands (map (region_changed bits n) (map plain_region (out-OpTree o).regions)) x) labels
-    ∙ sym (op_blocks_at bits n o)
+-- one block more, of those that are left last first
+pub block_step : (bits : ℕ) (is_first : Bool) (t u : Numbering) (made after all : List PlainBlock) (left rest : List BlockTree) (y : BlockTree) (x : PlainBlock) → left ≡ rest ++ y ∷ [] → Extends t u
+    → after ≡ made ++ x ∷ [] → Said u (λ n. x ≡ block_changed bits n is_first (plain_block y)) → Said t (λ n. made ++ blocks_changed bits n is_first (map plain_block (reverse left)) ≡ blocks_changed bits n true all)
+    → Said u (λ n. after ++ blocks_changed bits n false (map plain_block (reverse rest)) ≡ blocks_changed bits n true all)
+block_step bits is_first t u made after all left rest y x last extends put said was = λ v e.
+    let n : ℕ → ℕ → ℕ = λ label k. (supply_of v).argument label k in
+    ap (λ xs. xs ++ blocks_changed bits n false (map plain_block (reverse rest))) put
+    ∙ append_assoc made (x ∷ []) (blocks_changed bits n false (map plain_block (reverse rest)))
+    ∙ ap (λ z. made ++ z ∷ blocks_changed bits n false (map plain_block (reverse rest))) (said v e)
+    ∙ ap (λ ys. made ++ blocks_changed bits n is_first (map plain_block ys)) (sym (ap reverse last ∙ reverse-append rest (y ∷ [])))
+    ∙ was v (extends_on t u v extends e)
 
+-- an operation without regions stays as it is
+
+pub has_none_is : (o : OpTree) → has_none o ≡ (length (out-OpTree o).regions == 0)
+unfolding has_none
+has_none_is o = refl
+
+none_if : (rs : List RegionTree) → (length rs == 0) ≡ true → rs ≡ []
+none_if rs e = nil_from_length rs ((Decides-eqb (length rs) 0).0 e)
+
+one_stays : (bits : ℕ) (new : ℕ → ℕ → ℕ) (o : OpTree) → has_none o ≡ true → op_blocks bits new (plain_op o) ≡ plain_op o
+unfolding has_none
+one_stays bits new o e =
+    let none : (out-OpTree o).regions ≡ [] = none_if (out-OpTree o).regions e in
+    let over : List Blocks → Op = λ rs. op_from (out-OpTree o).name (plain_entries (out-OpTree o).props) (plain_entries (out-OpTree o).attrs) (plain_values (out-OpTree o).results) (out-OpTree o).operands rs (out-OpTree o).successors in
+    op_blocks_at bits new o ∙ ap (λ rs. over (map (region_changed bits new) (map plain_region rs))) none ∙ sym (ap (λ rs. over (map plain_region rs)) none) ∙ sym (op_plain_at o)
+
+both_of : (a b : Bool) → (a && b) ≡ true → (a ≡ true) × (b ≡ true)
+both_of true b e = (refl, e)
+both_of false b e = absurd (true≢false (sym e))
+
+pub all_stay : (bits : ℕ) (new : ℕ → ℕ → ℕ) (os : List OpTree) → list_all has_none os ≡ true → map plain_op os ≡ map (op_blocks bits new) (map plain_op os)
+all_stay bits new [] e = refl
+all_stay bits new (o ∷ os) e =
+    let tests = both_of (has_none o) (list_all has_none os) e in
+    ap (λ p. p ∷ map plain_op os) (sym (one_stays bits new o tests.0)) ∙ ap (λ ps. op_blocks bits new (plain_op o) ∷ ps) (all_stay bits new os tests.1)
+
+-- by parts
 pub later_parts : (bits : ℕ) (n : ℕ → ℕ → ℕ) (b : BlockTree) (p : PlainBlock) (args : Values) (casts ops all : List Op)
     → p ≡ record { label = (out-BlockTree b).label; args = args; ops = ops_in all } → all ≡ casts ++ ops → args ≡ new_arguments bits (n (out-BlockTree b).label) 0 (plain_values (out-BlockTree b).args)
     → ((more : Ops) → in_front casts more ≡ casts_back bits (n (out-BlockTree b).label) 0 (plain_values (out-BlockTree b).args) more) → ops ≡ map (op_blocks bits n) (map plain_op (out-BlockTree b).ops)
@@ -97,4 +126,4 @@ later_parts bits n b p args casts ops all made join values front inner =
     (ap ops_in join ∙ ops_front casts ops ∙ front (ops_in ops) ∙ ap (λ os. casts_back bits (n (out-BlockTree b).label) 0 (plain_values (out-BlockTree b).args) (ops_in os)) inner)
     ∙ sym (later_block_at bits n b)
 
-pub ruleset layers = (common_steps, op_blocks_at, region_blocks_at, first_block_at, later_block_at, ops_front, extends_itself)
+pub ruleset layers = (common_steps, op_blocks_at, region_blocks_at, first_block_at, later_block_at, ops_front, extends_itself, has_none_is, all_stay)

@@ -1,10 +1,9 @@
 -- Blocks whose arguments have converted types, layer by layer; and what is said for each table that extends another one.
-use Rattle.std.specs.Prelude.{◌≡◌, ℕ, Bool, true, false, List, [], ◌∷◌, ◌++◌, map, Option, Some, None}
-use Rattle.tree_model.specs.declared.op_tree.OpTree.{OpTree}
+use Rattle.std.specs.Prelude.{ℕ, Bool, true, false, List, [], ◌∷◌, length, ◌==◌, Option, Some, None}
+use Rattle.tree_model.specs.declared.op_tree.OpTree.{OpTree, out-OpTree}
 use Rattle.plain_tree.specs.Types.{PlainType}
-use Rattle.plain_tree.specs.Ops.{Op, Ops, end_of_ops, more_ops, Blocks, PlainBlock, Values, plain_op, plain_values}
-use Rattle.conversion_model.specs.Conversion.{Supply, blocks_blocks, cast_op, casts_back, new_argument, new_arguments, ops_blocks}
-use Rattle.conversion_model.specs.Types.{new_type}
+use Rattle.plain_tree.specs.Ops.{Op, Ops, more_ops, Blocks, PlainBlock}
+use Rattle.conversion_model.specs.Conversion.{blocks_blocks, cast_op, casts_back, new_arguments, ops_blocks}
 use Rattle.new_numbers.specs.Tables.{Extends, Numbering, supply_of}
 
 -- what holds of the numbers of arguments that each table gives that extends this one
@@ -34,3 +33,7 @@ blocks_changed bits new is_first (b ∷ bs) = block_changed bits new is_first b 
 
 unfoldable pub region_changed : ℕ → (ℕ → ℕ → ℕ) → Blocks → Blocks
 region_changed bits new r = blocks_blocks bits new true r
+
+-- whether an operation has no regions
+unfoldable pub has_none : OpTree → Bool
+has_none o = length (out-OpTree o).regions == 0

@@ -1,4 +1,4 @@
--- No cycle goes through a node with a rank.
+-- No cycle goes through a node that is followed by nodes of lower rank alone.
 use Rattle.std.proofs.Common.{◌≡◌, inl, inr, ℕ, zero, suc, ◌+◌, ◌==◌, ◌<◌, ◌≤◌, Bool, true, false, List, [], ◌∷◌, length, get_or, Some, None, refl, sym, ap, ◌∙◌, subst, true≢false, arith}
 use Rattle.std.specs.Prelude.{◌⊎◌, ◌||◌, ◌↔◌, nat_le, nat_lt, if◌then◌else◌}
 use Rattle.std.specs.Global.{Vec}
@@ -8,7 +8,7 @@ use Rattle.std.proofs.lemmas.Bool.{cases_order, eqb-true, leb-true, ltb-true}
 use Rattle.rule_model.specs.Words.{has}
 use Rattle.rule_model.proofs.Numbers.{and_first, and_second}
 use Rattle.block_search.specs.Reach.{Reached, begins, followed, follows, rows}
-use Rattle.own_uses.specs.Ranks.{all_fall, falls, FirstOnCycle, OnCycle, rank_of}
+use Rattle.own_uses.specs.Ranks.{all_fall, falls, FirstOnCycle, is_apart, OnCycle, rank_of}
 
 each : (p : ℕ → Bool) (n : ℕ) (ns : List ℕ) → list_all p ns ≡ true → has n ns ≡ true → p n ≡ true
 each p n [] all h = absurd (true≢false (sym h))
@@ -18,12 +18,11 @@ each p n (m ∷ ns) all h = go (m == n) refl h (λ k. each p n ns (and_second (p
     go true e k rest = ap p (sym (eqb-true m n e)) ∙ and_first (p m) (list_all p ns) all
     go false e k rest = rest k
 
-row_falls : (ranks : List ℕ) (m n : ℕ) (row : List ℕ) → falls ranks m row ≡ true → rank_of ranks m < length ranks → has n row ≡ true → rank_of ranks n < rank_of ranks m
-row_falls ranks m n row f less h = go (nat_le (length ranks) (rank_of ranks m)) refl f
-  where
-    go : (b : Bool) → nat_le (length ranks) (rank_of ranks m) ≡ b → (b || list_all (λ k. nat_lt (rank_of ranks k) (rank_of ranks m)) row) ≡ true → rank_of ranks n < rank_of ranks m
-    go true e k = let most = leb-true (length ranks) (rank_of ranks m) e in absurd (omega (arith, most, less))
-    go false e k = ltb-true (rank_of ranks n) (rank_of ranks m) (each (λ j. nat_lt (rank_of ranks j) (rank_of ranks m)) n row k h)
+row_falls : (ranks : List ℕ) (m n : ℕ) (row : List ℕ) → falls ranks m row ≡ true → has n row ≡ true → rank_of ranks n ≤ rank_of ranks m
+row_falls ranks m n row f h = leb-true (rank_of ranks n) (rank_of ranks m) (each (λ j. nat_le (rank_of ranks j) (rank_of ranks m)) n row f h)
+
+row_apart : (ranks : List ℕ) (m n : ℕ) (row : List ℕ) → is_apart ranks m row ≡ true → has n row ≡ true → rank_of ranks n < rank_of ranks m
+row_apart ranks m n row f h = ltb-true (rank_of ranks n) (rank_of ranks m) (each (λ j. nat_lt (rank_of ranks j) (rank_of ranks m)) n row f h)
 
 falls_at : (ranks : List ℕ) (n : ℕ) (edges : List (List ℕ)) (m : ℕ) → all_fall ranks n edges ≡ true → m < length edges → falls ranks (n + m) (get_or edges m []) ≡ true
 falls_at ranks n [] m all less = absurd (omega (arith, less))
@@ -38,26 +37,25 @@ inside [] m n h = absurd (true≢false (sym h))
 inside (row ∷ edges) zero n h = omega arith
 inside (row ∷ edges) (suc m) n h = let rest = inside edges m n h in omega (arith, rest)
 
-step_falls : (ranks : List ℕ) (edges : List (List ℕ)) (m n : ℕ) → all_fall ranks 0 edges ≡ true → rank_of ranks m < length ranks → has n (get_or edges m []) ≡ true
-    → rank_of ranks n < rank_of ranks m
-step_falls ranks edges m n all less h =
+step_falls : (ranks : List ℕ) (edges : List (List ℕ)) (m n : ℕ) → all_fall ranks 0 edges ≡ true → has n (get_or edges m []) ≡ true → rank_of ranks n ≤ rank_of ranks m
+step_falls ranks edges m n all h =
     let zero_on : 0 + m ≡ m = omega arith in
-    row_falls ranks m n (get_or edges m []) (subst (λ k. falls ranks k (get_or edges m []) ≡ true) zero_on (falls_at ranks 0 edges m all (inside edges m n h))) less h
+    row_falls ranks m n (get_or edges m []) (subst (λ k. falls ranks k (get_or edges m []) ≡ true) zero_on (falls_at ranks 0 edges m all (inside edges m n h))) h
 
-path_falls : (ranks : List ℕ) (edges : List (List ℕ)) (p q : ℕ) → all_fall ranks 0 edges ≡ true → rank_of ranks p < length ranks
+path_falls : (ranks : List ℕ) (edges : List (List ℕ)) (p q : ℕ) → all_fall ranks 0 edges ≡ true → is_apart ranks p (get_or edges p []) ≡ true
     → Reached (followed edges (length edges)) (get_or edges p []) q → rank_of ranks q < rank_of ranks p
-path_falls ranks edges p q all less (begins _ h) = step_falls ranks edges p q all less h
-path_falls ranks edges p q all less (follows m _ r h) =
-    let lower = path_falls ranks edges p m all less r in
-    let last = step_falls ranks edges m q all (omega (arith, lower, less)) (go (m == length edges) h) in
+path_falls ranks edges p q all apart (begins _ h) = row_apart ranks p q (get_or edges p []) apart h
+path_falls ranks edges p q all apart (follows m _ r h) =
+    let lower = path_falls ranks edges p m all apart r in
+    let last = step_falls ranks edges m q all (go (m == length edges) h) in
     omega (arith, lower, last)
   where
     go : (b : Bool) → has q (if b then [] else get_or edges m []) ≡ true → has q (get_or edges m []) ≡ true
     go true k = absurd (true≢false (sym k))
     go false k = k
 
-pub no_cycle : (ranks : List ℕ) (edges : List (List ℕ)) (p : ℕ) → all_fall ranks 0 edges ≡ true → rank_of ranks p < length ranks → OnCycle edges p → ⊥
-no_cycle ranks edges p all less r = let lower = path_falls ranks edges p p all less r in omega (arith, lower)
+pub no_cycle : (ranks : List ℕ) (edges : List (List ℕ)) (p : ℕ) → all_fall ranks 0 edges ≡ true → is_apart ranks p (get_or edges p []) ≡ true → OnCycle edges p → ⊥
+no_cycle ranks edges p all apart r = let lower = path_falls ranks edges p p all apart r in omega (arith, lower)
 
 -- A search from what follows a node
 

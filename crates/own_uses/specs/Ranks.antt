@@ -1,15 +1,19 @@
 -- Ranks that show that no cycle goes through a node.
-use Rattle.std.specs.Prelude.{ℕ, ◌+◌, ◌<◌, nat_le, nat_lt, Bool, true, ◌&&◌, ◌||◌, List, [], ◌∷◌, Option, Some, None, get_or, length}
+use Rattle.std.specs.Prelude.{ℕ, ◌+◌, ◌<◌, nat_le, nat_lt, Bool, true, ◌&&◌, List, [], ◌∷◌, Option, Some, None, get_or, length}
 use Rattle.std.specs.List.{list_all}
 use Rattle.block_search.specs.Reach.{Reached, followed}
 
--- the rank of a node, none of a node where it is not below the number of nodes
+-- the rank of a node, the number of nodes where it is none of them
 abbrev pub rank_of : List ℕ → ℕ → ℕ
 rank_of ranks n = get_or ranks n (length ranks)
 
--- a node with a rank is followed by nodes of lower rank alone
+-- a node is followed by no node of higher rank
 abbrev pub falls : List ℕ → ℕ → List ℕ → Bool
-falls ranks m row = nat_le (length ranks) (rank_of ranks m) || list_all (λ n. nat_lt (rank_of ranks n) (rank_of ranks m)) row
+falls ranks m row = list_all (λ n. nat_le (rank_of ranks n) (rank_of ranks m)) row
+
+-- a node is followed by nodes of lower rank alone
+abbrev pub is_apart : List ℕ → ℕ → List ℕ → Bool
+is_apart ranks m row = list_all (λ n. nat_lt (rank_of ranks n) (rank_of ranks m)) row
 
 -- from the m-th node on
 abbrev pub all_fall : List ℕ → ℕ → List (List ℕ) → Bool

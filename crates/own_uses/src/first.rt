@@ -11,7 +11,7 @@ ghost use Rattle.own_uses.specs.Ranks.{all_fall, FirstOnCycle, OnCycle};
 
 use crate::flat::operations;
 use crate::graph::edges_of;
-use crate::ranks::{are_ranks, has_rank, ranks_of};
+use crate::ranks::{are_ranks, is_apart, ranks_of};
 use block_search::reached;
 use std::alloc::Global;
 use tree_model::{NoMemory, OpTree};
@@ -36,7 +36,7 @@ fn is_on_cycle(alloc: Global, edges: &[Vec<usize>], node: usize) -> Result<bool,
     Ok(on)
 }
 
-/// The same, without a search where the node has a rank.
+/// The same, without a search where what follows the node has a lower rank.
 fn is_cyclic(
     alloc: Global,
     edges: &[Vec<usize>],
@@ -47,7 +47,8 @@ fn is_cyclic(
     requires right { all_fall ranks.now 0 (rows edges.now) ≡ true }
     ensures { IfOk result (λ b. (b ≡ true) ↔ OnCycle (rows edges.now) node) }
 {
-    if has_rank(ranks, node) {
+    let row = edges[node].as_slice();
+    if is_apart(ranks, node, row) {
         return Ok(false);
     }
     let on = is_on_cycle(alloc, edges, node)?;
@@ -98,8 +99,8 @@ fn first_on_cycle(alloc: Global, edges: &[Vec<usize>]) -> Result<Option<usize>, 
 /// The number of the first operation of a function, in the order of the text, with a result that uses itself: a result uses the operands
 /// of its operation and of those in the operation's regions, and what these use. None where no result does.
 ///
-/// Where no result uses itself this takes one pass over the uses; else each operation in front of the first one, of which a path leads to
-/// one that uses itself, is searched from.
+/// This takes a few passes over the uses: only an operation that is followed by one of its own component is searched from, and the first
+/// such one is the answer.
 pub fn first_own_use(alloc: Global, function: &OpTree) -> Result<Option<usize>, NoMemory>
     ensures { IfOk result (λ place. is_numbered_once (plain_op function.now) ≡ true → FirstAt (UsesItself (plain_op function.now)) (sites (plain_op function.now)) place) }
 {

@@ -1,9 +1,9 @@
-//! Ranks of the nodes of a graph, by which most nodes are seen to be on no cycle without a search.
+//! Ranks of the nodes of a graph, by which nodes are seen to be on no cycle without a search.
 
-ghost use Rattle.std.specs.Prelude.{◌≡◌, ◌||◌, nat_le, nat_lt, IfOk, OnOk, get_or, length, replicate};
+ghost use Rattle.std.specs.Prelude.{◌≡◌, nat_le, nat_lt, IfOk, OnOk, length};
 ghost use Rattle.std.specs.List.{list_all};
 ghost use Rattle.block_search.specs.Reach.{rows};
-ghost use Rattle.own_uses.specs.Ranks.{all_fall, falls, rank_of};
+ghost use Rattle.own_uses.specs.Ranks.{all_fall, falls, is_apart, rank_of};
 
 use std::alloc::Global;
 use tree_model::NoMemory;
@@ -16,12 +16,6 @@ fn rank_of(ranks: &[usize], node: usize) -> usize
         Some(rank) => *rank,
         None => ranks.len(),
     }
-}
-
-pub fn has_rank(ranks: &[usize], node: usize) -> bool
-    ensures { result ≡ nat_lt (rank_of ranks.now node) (length ranks.now) }
-{
-    rank_of(ranks, node) < ranks.len()
 }
 
 fn put(list: &mut Vec<usize>, place: usize, value: usize)
@@ -68,74 +62,118 @@ fn users_of(alloc: Global, edges: &[Vec<usize>]) -> Result<Vec<Vec<usize>>, NoMe
     Ok(users)
 }
 
-/// The nodes that nothing follows.
-fn last_nodes(alloc: Global, edges: &[Vec<usize>]) -> Result<Vec<usize>, NoMemory> {
-    let mut last = Vec::new(alloc);
-    for (node, row) in edges.iter().enumerate() {
-        if row.is_empty() {
-            last.push(node)?;
-        }
+/// A node that is met, and all that follows it, are to be looked at before it is left.
+fn enter(
+    edges: &[Vec<usize>],
+    seen: &mut Vec<bool>,
+    stack: &mut Vec<(usize, bool)>,
+    node: usize,
+) -> Result<(), NoMemory> {
+    if node >= edges.len() || node >= seen.len() || seen[node] {
+        return Ok(());
     }
-    Ok(last)
+    seen[node] = true;
+    stack.push((node, true))?;
+    for next in edges[node].as_slice() {
+        stack.push((*next, false))?;
+    }
+    Ok(())
 }
 
-fn sizes(alloc: Global, edges: &[Vec<usize>]) -> Result<Vec<usize>, NoMemory> {
-    let mut left = Vec::with_capacity(alloc, edges.len())?;
-    for row in edges {
-        left.push(row.len())?;
-    }
-    Ok(left)
-}
-
-/// One node fewer is left of what follows these; those of which none is left are next.
-fn release(users: &[usize], left: &mut Vec<usize>, order: &mut Vec<usize>) -> Result<(), NoMemory> {
-    for user in users {
-        if *user < left.len() {
-            left[*user] = left[*user].saturating_sub(1);
-            if left[*user] == 0 {
-                order.push(*user)?;
-            }
+/// Puts the nodes that a search from one meets first, each when it is left.
+fn leave_all(
+    alloc: Global,
+    edges: &[Vec<usize>],
+    seen: &mut Vec<bool>,
+    order: &mut Vec<usize>,
+    start: usize,
+) -> Result<(), NoMemory> {
+    let mut stack = Vec::new(alloc);
+    stack.push((start, false))?;
+    for _turn in 0..usize::MAX {
+        match stack.pop() {
+            None => return Ok(()),
+            Some((node, true)) => order.push(node)?,
+            Some((node, false)) => enter(edges, seen, &mut stack, node)?,
         }
     }
     Ok(())
 }
 
-/// Ranks by which what follows a node has a lower rank. A node from which a cycle is reached has none. That they are right is not
-/// relied on: `are_ranks` looks.
+/// All nodes in the order in which a search in depth leaves them.
+fn left_in_order(alloc: Global, edges: &[Vec<usize>]) -> Result<Vec<usize>, NoMemory> {
+    let mut seen = vec![in alloc; false; edges.len()]?;
+    let mut order = Vec::with_capacity(alloc, edges.len())?;
+    for node in 0..edges.len() {
+        leave_all(alloc, edges, &mut seen, &mut order, node)?;
+    }
+    Ok(order)
+}
+
+fn push_row(stack: &mut Vec<usize>, edges: &[Vec<usize>], node: usize) -> Result<(), NoMemory> {
+    if node < edges.len() {
+        stack.extend_from_slice(edges[node].as_slice())?;
+    }
+    Ok(())
+}
+
+/// Gives the rank to each node without one that is reached from the start over such nodes.
+fn flood(
+    alloc: Global,
+    edges: &[Vec<usize>],
+    ranks: &mut Vec<usize>,
+    start: usize,
+    rank: usize,
+) -> Result<(), NoMemory>
+    ensures { OnOk result (length ranks.new.items ≡ length ranks.old.items) }
+{
+    let mut stack = Vec::new(alloc);
+    stack.push(start)?;
+    for _turn in 0..usize::MAX {
+        let Some(node) = stack.pop() else {
+            return Ok(());
+        };
+        if rank_of(ranks.as_slice(), node) == edges.len() {
+            put(ranks, node, rank);
+            push_row(&mut stack, edges, node)?;
+        }
+    }
+    Ok(())
+}
+
+/// Ranks by which no node is followed by one of a higher rank, and two nodes have the same one exactly where each is reached from the
+/// other: the components of the graph in order, by a search against the edges and one along them. That they are right is not relied
+/// on: `are_ranks` looks.
 pub fn ranks_of(alloc: Global, edges: &[Vec<usize>]) -> Result<Vec<usize>, NoMemory>
     ensures { IfOk result (λ ranks. length ranks.items ≡ length edges.now) }
 {
     let users = users_of(alloc, edges)?;
-    let mut left = sizes(alloc, edges)?;
-    let mut order = last_nodes(alloc, edges)?;
+    let order = left_in_order(alloc, users.as_slice())?;
     let mut ranks = filled(alloc, edges.len())?;
-    for rank in 0..edges.len() {
-        if rank < order.len() {
-            let node = order[rank];
-            put(&mut ranks, node, rank);
-            if node < users.len() {
-                release(users[node].as_slice(), &mut left, &mut order)?;
-            }
-        }
+    for rank in 0..order.len() {
+        let start = order[order.len() - 1 - rank];
+        flood(alloc, edges, &mut ranks, start, rank)?;
     }
     Ok(ranks)
 }
 
-fn all_below(ranks: &[usize], rank: usize, row: &[usize]) -> bool
-    ensures { result ≡ list_all (λ n. nat_lt (rank_of ranks.now n) rank) row.now }
+/// Whether a node is followed by nodes of lower rank alone.
+pub fn is_apart(ranks: &[usize], node: usize, row: &[usize]) -> bool
+    ensures { result ≡ is_apart ranks.now node row.now }
 {
+    let rank = rank_of(ranks, node);
     row.iter().all(|next| rank_of(ranks, *next) < rank)
 }
 
-/// Whether a node that has a rank is followed by nodes of lower rank alone.
+/// Whether a node is followed by no node of higher rank.
 fn falls(ranks: &[usize], node: usize, row: &[usize]) -> bool
     ensures { result ≡ falls ranks.now node row.now }
 {
     let rank = rank_of(ranks, node);
-    rank >= ranks.len() || all_below(ranks, rank, row)
+    row.iter().all(|next| rank_of(ranks, *next) <= rank)
 }
 
-/// Whether each node that has a rank is followed by nodes of lower rank alone.
+/// Whether no node is followed by one of higher rank.
 pub fn are_ranks(ranks: &[usize], edges: &[Vec<usize>]) -> bool
     ensures { result ≡ all_fall ranks.now 0 (rows edges.now) }
 {

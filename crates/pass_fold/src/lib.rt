@@ -11,3 +11,4 @@ mod widths;
 pub use failure::{FailureList, FailureTree};
 pub use passes::{IllegalOp, Passes};
 pub use stages::{FoldedTree, run_pipeline};
+pub use widths::width_of;

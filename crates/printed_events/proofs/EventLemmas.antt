@@ -102,7 +102,7 @@ says sp wd _ kind bytes own name f = tt
 
 module _ (text : List ℕ) (words : List Word) where
   -- a word's name stands for a word that spells the same
-  name_spells : (i : ℕ) (w : Word) → slice_get words i ≡ Some w → spelled_of text words (name_of text words i w) ≡ spelled text w
+  pub name_spells : (i : ℕ) (w : Word) → slice_get words i ≡ Some w → spelled_of text words (name_of text words i w) ≡ spelled text w
   name_spells i w there = by_sign (is_sign w.kind) (position (spells text (spelled text w)) words) (sym (position_from-zero (spells text (spelled text w)) words))
     where
       by_sign : (s : Bool) (o : Option ℕ) → position_from (spells text (spelled text w)) 0 words ≡ o → spelled_or text (slice_get words (if s then i else unwrap_or o i)) ≡ spelled text w

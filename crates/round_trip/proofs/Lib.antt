@@ -1,2 +1,3 @@
 pub mod ClassLemmas
+pub mod NameLemmas
 pub mod TextLemmas

@@ -25,8 +25,10 @@ use Rattle.settled_reading.proofs.Modules.{read_is_settled}
 use Rattle.spelled_reading.specs.Bytes.{is_module_in_bytes}
 use Rattle.spelled_reading.proofs.Modules.{read_is_in_bytes}
 use Rattle.spelled_reading.proofs.WordBytes.{words_are_in_bytes}
-use Rattle.round_trip.specs.Laws.{PrintedTextDenotes, ReadsInBytes, ReadsSettled, class_of_module, events_of_module, text_of_module, words_of_module}
+use Rattle.round_trip.specs.Laws.{PrintedTextDenotes, ReadsInBytes, ReadsSettled, ScopedTextDenotes, class_of_module, events_of_module, text_of_module, words_of_module}
+use Rattle.scoped_trees.proofs.Modules.{uses_are_served}
 use Rattle.round_trip.proofs.ClassLemmas.{all_fit, classes_from}
+use Rattle.round_trip.proofs.NameLemmas.{names_agree}
 
 -- the events of the text are told
 told_text : (m : PlainModule) → is_known m ≡ true → Told (spelling_of (text_of_module m) (words_of_module m)) (wording_of (text_of_module m) (words_of_module m)) (module_words m) (events_of_module m)
@@ -53,6 +55,14 @@ text_denotes m know settled numbered classed serve labels =
           (λ name front rest e. classes_from (text_of_module m) (words_of_module m) (module_words m) [] 0 0 name front rest refl refl (all_fit read.0) e)
           module_class classed know settled numbered serve labels),
     )
+
+pub scoped_denotes : ScopedTextDenotes
+scoped_denotes m know settled numbered classed scoped =
+    let read = modules_are_read m know in
+    let served = uses_are_served (spelling_of (text_of_module m) (words_of_module m)) (wording_of (text_of_module m) (words_of_module m)) operation_class (class_of_module m) m (events_of_module m) (told_text m know)
+    (λ name front rest e. classes_from (text_of_module m) (words_of_module m) (module_words m) [] 0 0 name front rest refl refl (all_fit read.0) e)
+    module_class classed (names_agree (text_of_module m) (module_words m) (all_fit read.0)) know numbered scoped in
+    text_denotes m know settled numbered classed served.0 served.1
 
 pub reads_settled : ReadsSettled
 reads_settled text allowed A reads =

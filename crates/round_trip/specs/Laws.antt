@@ -22,6 +22,7 @@ use Rattle.spelled_reading.specs.Bytes.{is_module_in_bytes}
 use Rattle.printed_modules.specs.ModuleWords.{is_known, module_words, places_of}
 use Rattle.printed_trees.specs.Laws.{funcs_targets, funcs_uses, is_numbered_module, is_settled_module, name_of, own_numbers}
 use Rattle.printed_trees.specs.Serving.{Serve, ServeLabels}
+use Rattle.scoped_trees.specs.Scoped.{is_scoped_module}
 
 -- the text of a module, its words, what its operations are, and its events
 abbrev pub text_of_module : PlainModule → List ℕ
@@ -50,6 +51,10 @@ PrintedTextDenotes = (m : PlainModule) → is_known m ≡ true → is_settled_mo
     → Serve (numbers_of_module m) (funcs_uses m.funcs) (definitions names.Values (class_of_module m) (events_of_module m))
     → ServeLabels (numbers_of_module m) (funcs_targets m.funcs) (definitions names.Labels (class_of_module m) (events_of_module m))
     → Denotes (text_of_module m) (module_tree m)
+
+-- where the uses are in scope each finds its definition
+abbrev pub ScopedTextDenotes : Type 0
+ScopedTextDenotes = (m : PlainModule) → is_known m ≡ true → is_settled_module m ≡ true → is_numbered_module m ≡ true → are_no_modules m ≡ true → is_scoped_module m ≡ true → Denotes (text_of_module m) (module_tree m)
 
 -- a module that a text reads as is settled
 abbrev pub ReadsSettled : Type 0

@@ -5,4 +5,6 @@
 
 mod laws;
 
-pub use laws::{law_printed_text_denotes, law_read_is_in_bytes, law_read_is_settled};
+pub use laws::{
+    law_printed_text_denotes, law_read_is_in_bytes, law_read_is_settled, law_scoped_text_denotes,
+};

@@ -1,8 +1,8 @@
 //! The program as a whole: words and a text in, two texts and a status out.
 
 use crate::texts::{
-    INC, INC_ALONE, INC_CONVERTED, INC_PRINTED, KINDS, KINDS_PRINTED, SUM, SUM_PRINTED, THREE,
-    THREE_CONVERTED,
+    INC, INC_ALONE, INC_CONVERTED, INC_PRINTED, KINDS, KINDS_PRINTED, ROUNDED, ROUNDED_TOLD, SUM,
+    SUM_PRINTED, THREE, THREE_CONVERTED,
 };
 use edge_kit::{MemSink, MemSource, SureSink, SureSource, Words};
 use std::alloc::{AllocError, Global};
@@ -182,9 +182,44 @@ fn the_pass_converts_constants_and_additions(rt: HostRuntime) -> Result<(), Fail
 }
 
 #[test]
-fn the_pass_is_not_there_for_other_modules(rt: HostRuntime) -> Result<(), Fail> {
-    let line = "refused: text at 0: NotBuilt\n";
-    tells(&rt, rt.alloc(), &[CONVERT], SUM, line, Status::Refused)?;
+fn a_pass_that_fails_is_told_and_the_module_is_printed(rt: HostRuntime) -> Result<(), Fail> {
+    let Answer { status, out, diag } = run_on(rt.alloc(), &[CONVERT], ROUNDED)?;
+    assert_eq!(rt; out.bytes(), ROUNDED.as_bytes());
+    assert_eq!(rt; diag.bytes(), ROUNDED_TOLD.as_bytes());
+    assert_eq!(rt; status, Status::PassFailed);
+    Ok(())
+}
+
+#[test]
+fn a_fault_of_the_second_output_leaves_the_first_whole(rt: HostRuntime) -> Result<(), Fail> {
+    let mut words = Words::new(rt.alloc());
+    words.push(rt.alloc(), CONVERT)?;
+    let mut input = SureSource::new(Vec::from_slice(rt.alloc(), ROUNDED.as_bytes())?);
+    let mut out = SureSink::new(rt.alloc());
+    let mut diag = MemSink::new(rt.alloc(), vec![in rt.alloc(); 0]?);
+    let status = run_single(rt.alloc(), &words, &mut input, &mut out, &mut diag);
+    assert_eq!(rt; status, Status::WriteFault);
+    assert_eq!(rt; out.bytes(), ROUNDED.as_bytes());
+    assert_eq!(rt; diag.bytes(), b"".as_slice());
+    Ok(())
+}
+
+#[test]
+fn a_pipeline_is_refused_before_the_input_is_read(rt: HostRuntime) -> Result<(), Fail> {
+    let mut words = Words::new(rt.alloc());
+    words.push(
+        rt.alloc(),
+        "--pass-pipeline=builtin.module(convert-scf-to-cf",
+    )?;
+    let mut input = MemSource::new(Vec::new(rt.alloc()), vec![in rt.alloc(); 0]?);
+    let mut out = SureSink::new(rt.alloc());
+    let mut diag = SureSink::new(rt.alloc());
+    let status = run_single(rt.alloc(), &words, &mut input, &mut out, &mut diag);
+    assert_eq!(rt; status, Status::Usage);
+    assert_eq!(rt;
+        diag.bytes(),
+        b"usage: pipeline at 32: Expected\n".as_slice()
+    );
     Ok(())
 }
 

@@ -72,6 +72,22 @@ pub const THREE_CONVERTED: &str = "\"builtin.module\"() ({
 }) : () -> ()
 ";
 
+/// A function of an operation that the pass has no pattern for, in the layout.
+pub const ROUNDED: &str = "\"builtin.module\"() ({
+  \"func.func\"() <{function_type = (i32) -> i32, sym_name = \"r\"}> ({
+  ^bb0(%arg0: i32):
+    %0 = \"arith.ceildivsi\"(%arg0, %arg0) : (i32, i32) -> i32
+    \"func.return\"(%0) : (i32) -> ()
+  }) : () -> ()
+}) : () -> ()
+";
+
+/// What is told of it.
+pub const ROUNDED_TOLD: &str =
+    "error: @r: convert-arith-to-llvm: operation 1 'arith.ceildivsi' is not legalised
+note: patterns with this root: 0
+";
+
 /// Aliases, several results, regions, labels, and attributes of all kinds.
 pub const KINDS: &str = "#width = array<i8: 255, -1>
 !pair = !llvm.struct<(i32, !llvm.ptr)>

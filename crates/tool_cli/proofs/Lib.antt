@@ -1,3 +1,5 @@
+pub mod Lowers
+pub mod Verdicts
 pub mod OneReply
 pub mod Bytes
 pub mod Statuses

@@ -1,8 +1,9 @@
 -- What the top call answers.
 pub mod Codes
-pub mod Commands
-pub mod Passes
 pub mod Told
+pub mod Asking
+pub mod Verdicts
 pub mod Refusals
+pub mod Behind
 pub mod Replies
 pub mod Runs

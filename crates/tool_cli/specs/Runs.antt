@@ -4,8 +4,6 @@ use Rattle.std.specs.Io.KnownBytes.{Keeps, Appends}
 use Rattle.edge_kit.specs.Edges.{Rose}
 use Rattle.tool_cli.specs.declared.status.Status.{Status}
 use Rattle.tool_cli.specs.declared.status.Status.TheVariants.{Ok, Usage, Refused, PassFailed, ReadFault, WriteFault, NoMemory, Limit}
-use Rattle.tool_cli.specs.declared.command.Command.{Command}
-use Rattle.tool_cli.specs.Commands.{command_of}
 use Rattle.tool_cli.specs.Told.{Reply}
 use Rattle.tool_cli.specs.Replies.{Out}
 
@@ -19,10 +17,6 @@ IsReply Limit = ⊤
 IsReply ReadFault = ⊥
 IsReply WriteFault = ⊥
 IsReply NoMemory = ⊥
-
--- the words are a command
-abbrev pub AreCommand : List (List ℕ) → Type 0
-AreCommand words = (command : Command) × (command_of words ≡ Some command)
 
 -- these are the bytes that a source has left, where it tells them
 abbrev pub IsInput : Option (List ℕ) → List ℕ → Type 0

@@ -4,13 +4,12 @@
 //! the table of replies in `specs/Replies.antt`.
 #![tactic(auto)]
 
-pub mod command;
+mod behind;
 mod edges;
-mod passes;
 mod prepared;
 mod refusals;
 pub mod run;
 pub mod status;
 
-pub use run::{law_commands, law_one_reply, run_single, run_sure};
+pub use run::{law_one_reply, run_single, run_sure};
 pub use status::Status;

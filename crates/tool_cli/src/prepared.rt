@@ -1,7 +1,7 @@
 //! The reply before it is written.
 
-ghost use Rattle.std.specs.Prelude.{◌≡◌, [], ◌++◌, codes, IfOk};
-ghost use Rattle.tool_cli.specs.Told.{refusal};
+ghost use Rattle.std.specs.Prelude.{◌≡◌, IfOk};
+ghost use Rattle.tool_cli.specs.Told.{ran, refusal, status_behind};
 
 use crate::status::Status;
 use std::alloc::Global;
@@ -44,13 +44,23 @@ pub fn refuse_line(alloc: Global, status: Status, mut line: Bytes) -> Result<Pre
     })
 }
 
-/// `text` on `out`, and nothing on `diag`.
-pub fn succeed(alloc: Global, text: Vec<u8>) -> Prepared
-    ensures { result ≡ record { out = text.items; diag = []; status = Status.Ok } }
+/// `text` on `out`, and the lines on what failed on `diag`.
+pub fn ran(text: Vec<u8>, lines: Bytes, failed: bool) -> Prepared
+    ensures { result ≡ ran text.items lines failed }
 {
     Prepared {
         out: text,
-        diag: Vec::new(alloc),
-        status: Status::Ok,
+        diag: lines.into_vec(),
+        status: status_behind(failed),
+    }
+}
+
+fn status_behind(failed: bool) -> Status
+    ensures { result ≡ status_behind failed }
+{
+    if failed {
+        Status::PassFailed
+    } else {
+        Status::Ok
     }
 }

@@ -1,26 +1,25 @@
 //! The top call and its laws.
 
-ghost use Rattle.std.specs.Prelude.{◌≡◌, ◌⊎◌, ℕ, ◌^◌, ◌≤◌, List, [], length, ⊤, Some, None, IfOk, IsErrOf, OnOk, OnErr};
+ghost use Rattle.std.specs.Prelude.{◌≡◌, ◌⊎◌, ℕ, ◌^◌, ◌≤◌, List, [], length, ⊤, Some, IfOk, IfErr, IsErrOf, OnOk, OnErr};
 ghost use Rattle.std.specs.Io.KnownBytes.{IsAtEnd, Keeps};
 ghost use Rattle.edge_kit.specs.Edges.{Rose};
 ghost use Rattle.plain_tree.specs.Ops.{plain_module};
-ghost use Rattle.ir_verifier.specs.Telling.{Passes};
 ghost use Rattle.tool_cli.specs.Told.{Reply};
 ghost use Rattle.tool_cli.specs.Replies.{Out};
 ghost use Rattle.tree_reading.specs.Reading.{Reads};
-ghost use Rattle.tool_cli.specs.Commands.{Commands, command_of};
-ghost use Rattle.tool_cli.specs.Runs.{AreCommand, IsReply, RepliesTo, TakesAll, StopsEarly, RoseAlone, Spares, OneReply};
+ghost use Rattle.tool_cli.specs.Asking.{AsksFor, IsAsked};
+ghost use Rattle.tool_cli.specs.Verdicts.{KeepsRules};
+ghost use Rattle.tool_cli.specs.Runs.{IsReply, RepliesTo, TakesAll, StopsEarly, RoseAlone, Spares, OneReply};
 
-use crate::command::{Command, command_of};
+use crate::behind::{printed, run_twice};
 use crate::edges::{read_input, write_all};
-use crate::passes::made_by;
-use crate::prepared::{Prepared, refuse, succeed};
+use crate::prepared::{Prepared, refuse, refuse_line};
 use crate::refusals::{broken, refused};
 use crate::status::Status;
 use edge_kit::{Sink, SinkFault, Source, SureSink, SureSource, Words};
-use generic_printer::print_tree;
 use ir_verifier::verify;
 use std::alloc::{AllocError, Global};
+use tool_words::{Request, WordsRead, read_words};
 use tree_model::ModuleTree;
 use tree_reader::{ReadRefusal, read_tree};
 
@@ -41,7 +40,8 @@ impl From<AllocError> for Stop {
     }
 }
 
-/// Reads a module from `input` and prints it on `out`; what refuses it goes to `diag`.
+/// Reads a module from `input`, runs the pipeline of the words over it, and prints what it makes of the module on `out`, or the lines on
+/// a run of both where the words ask for it; what refuses the words or the module, and what failed in the pipeline, goes to `diag`.
 pub fn run_single<S: Source, K: Sink, E: Sink>(
     alloc: Global,
     words: &Words,
@@ -51,9 +51,9 @@ pub fn run_single<S: Source, K: Sink, E: Sink>(
 ) -> Status
     ensures replied { IsReply result → (reply : Reply) × RepliesTo words.now (S.left input.old) reply × (result ≡ reply.status)
         × TakesAll (K.held out.old) (K.held out.new) (E.held diag.old) (E.held diag.new) reply }
-    ensures ended { (result ≡ Status.Ok) ⊎ (result ≡ Status.Refused) → IsAtEnd (S.left input.new) }
-    ensures unread { (result ≡ Status.Usage) ⊎ (command_of words.now ≡ None) → input.new ≡ input.old }
-    ensures read_fault { result ≡ Status.ReadFault → AreCommand words.now × Rose (S.faults input.old) (S.faults input.new)
+    ensures ended { (result ≡ Status.Ok) ⊎ (result ≡ Status.Refused) ⊎ (result ≡ Status.PassFailed) → IsAtEnd (S.left input.new) }
+    ensures unread { (result ≡ Status.Usage) ⊎ (IsAsked words.now → ⊥) → input.new ≡ input.old }
+    ensures read_fault { result ≡ Status.ReadFault → IsAsked words.now × Rose (S.faults input.old) (S.faults input.new)
         × Spares out.old out.new diag.old diag.new }
     ensures write_fault { result ≡ Status.WriteFault → (reply : Reply) × RepliesTo words.now (S.left input.old) reply
         × StopsEarly (RoseAlone (K.faults out.old) (K.faults out.new) (E.faults diag.old) (E.faults diag.new))
@@ -90,19 +90,14 @@ pub fn run_sure(
     ensures writes { result ≡ Status.WriteFault → ⊥ }
     ensures replied { IsReply result → (reply : Reply) × RepliesTo words.now (Some input.old) reply × (result ≡ reply.status)
         × TakesAll (Some out.old) (Some out.new) (Some diag.old) (Some diag.new) reply }
-    ensures ended { (result ≡ Status.Ok) ⊎ (result ≡ Status.Refused) → input.new ≡ [] }
-    ensures unread { (result ≡ Status.Usage) ⊎ (command_of words.now ≡ None) → input.new ≡ input.old }
+    ensures ended { (result ≡ Status.Ok) ⊎ (result ≡ Status.Refused) ⊎ (result ≡ Status.PassFailed) → input.new ≡ [] }
+    ensures unread { (result ≡ Status.Usage) ⊎ (IsAsked words.now → ⊥) → input.new ≡ input.old }
     ensures no_memory { result ≡ Status.NoMemory → Spares out.old out.new diag.old diag.new
         ⊎ ((reply : Reply) × RepliesTo words.now (Some input.old) reply
         × StopsEarly ⊤ ⊤ (Some out.old) (Some out.new) (Some diag.old) (Some diag.new) reply) }
 {
     run_single(alloc, words, input, out, diag)
 }
-
-/// The words in any order, each option at most once, are a command.
-pub fn law_commands()
-    ensures { Commands }
-{}
 
 /// At most one reply fits given words and a given input, so the status and both texts are theirs.
 pub fn law_one_reply()
@@ -112,70 +107,80 @@ pub fn law_one_reply()
 // The reply to the words and to what the source has left.
 fn reply_to<S: Source>(alloc: Global, words: &Words, input: &mut S) -> Result<Prepared, Stop>
     ensures reply { IfOk result (λ p. RepliesTo words.now (S.left input.old) p) }
-    ensures ended { IfOk result (λ p. (p.status ≡ Status.Ok) ⊎ (p.status ≡ Status.Refused) → IsAtEnd (S.left input.new)) }
+    ensures ended { IfOk result (λ p. (p.status ≡ Status.Ok) ⊎ (p.status ≡ Status.Refused) ⊎ (p.status ≡ Status.PassFailed) → IsAtEnd (S.left input.new)) }
     ensures cause { IsErrOf result Stop.ReadFault → Rose (S.faults input.old) (S.faults input.new) }
-    ensures command { IsErrOf result Stop.ReadFault → AreCommand words.now }
-    ensures unread { command_of words.now ≡ None → input.new ≡ input.old }
+    ensures asked { IsErrOf result Stop.ReadFault → IsAsked words.now }
+    ensures unread { (IsAsked words.now → ⊥) → input.new ≡ input.old }
     ensures quiet { OnOk result (S.faults input.new ≡ S.faults input.old) }
     ensures wanting { IsErrOf result Stop.NoMemory → S.faults input.new ≡ S.faults input.old }
 {
-    let Some(command) = command_of(words) else {
-        return Ok(refuse(
-            alloc,
-            Status::Usage,
-            "usage: the words are not in the command set",
-        )?);
+    let request = match asked_of(alloc, words)? {
+        Ok(request) => request,
+        Err(reply) => return Ok(reply),
     };
     match read_input(alloc, input)? {
         None => Ok(refuse(alloc, Status::Limit, "limit: input 16777216")?),
-        Some(text) => Ok(reply_to_text(alloc, command, text.as_slice())?),
+        Some(text) => Ok(reply_to_text(alloc, &request, text.as_slice())?),
     }
 }
 
-// The reply of a command to a whole text.
-fn reply_to_text(alloc: Global, command: Command, text: &[u8]) -> Result<Prepared, AllocError>
-    requires { length text.now ≤ 2 ^ 24 }
-    ensures { (words : List (List ℕ)) → command_of words ≡ Some command → IfOk result (λ p. Out words text.now p) }
+// What the words ask for, or the reply to words that ask for nothing.
+fn asked_of(alloc: Global, words: &Words) -> Result<Result<Request, Prepared>, AllocError>
+    ensures asked { IfOk result (λ r. IfOk r (λ request. AsksFor words.now request)) }
+    ensures refused { IfOk result (λ r. IfErr r (λ p. (bytes : List ℕ) → Out words.now bytes p)) }
+    ensures nothing { IfOk result (λ r. IfErr r (λ p. IsAsked words.now → ⊥)) }
+    ensures usage { IfOk result (λ r. IfErr r (λ p. p.status ≡ Status.Usage)) }
 {
-    match read_tree(alloc, text, command.allowed) {
-        Ok(source) => reply_to_module(alloc, command, text, source),
+    match read_words(alloc, words)? {
+        WordsRead::Asked(request) => Ok(Ok(request)),
+        WordsRead::Refused(text) => Ok(Err(refuse_line(alloc, Status::Usage, text)?)),
+    }
+}
+
+// The reply to a request and a whole text.
+fn reply_to_text(alloc: Global, request: &Request, text: &[u8]) -> Result<Prepared, AllocError>
+    requires { length text.now ≤ 2 ^ 24 }
+    ensures { (words : List (List ℕ)) → AsksFor words request.now → IfOk result (λ p. Out words text.now p) }
+{
+    match read_tree(alloc, text, request.allowed) {
+        Ok(source) => reply_to_module(alloc, request, text, source),
         Err(ReadRefusal::At { place, kind }) => refused(alloc, place, kind),
         Err(ReadRefusal::NoMemory) => Err(AllocError),
     }
 }
 
-// The reply of a command to the module of a text.
+// The reply to a request and the module of a text.
 fn reply_to_module(
     alloc: Global,
-    command: Command,
+    request: &Request,
     text: &[u8],
     source: ModuleTree,
 ) -> Result<Prepared, AllocError>
     requires short { length text.now ≤ 2 ^ 24 }
-    requires read { Reads text.now command.allowed source }
-    ensures { (words : List (List ℕ)) → command_of words ≡ Some command → IfOk result (λ p. Out words text.now p) }
+    requires read { Reads text.now request.now.allowed source }
+    ensures { (words : List (List ℕ)) → AsksFor words request.now → IfOk result (λ p. Out words text.now p) }
 {
     match verify(alloc, &source)? {
         Some(rule) => broken(alloc, &source, rule),
-        None => reply_to_verified(alloc, command, text, source),
+        None => reply_to_verified(alloc, request, text, source),
     }
 }
 
-// The reply of a command to the module of a text that breaks no rule.
+// The reply to a request and the module of a text that breaks no rule.
 fn reply_to_verified(
     alloc: Global,
-    command: Command,
+    request: &Request,
     text: &[u8],
     source: ModuleTree,
 ) -> Result<Prepared, AllocError>
     requires short { length text.now ≤ 2 ^ 24 }
-    requires read { Reads text.now command.allowed source }
-    requires passes { Passes (plain_module source) }
-    ensures { (words : List (List ℕ)) → command_of words ≡ Some command → IfOk result (λ p. Out words text.now p) }
+    requires read { Reads text.now request.now.allowed source }
+    requires keeps { KeepsRules (plain_module source) }
+    ensures { (words : List (List ℕ)) → AsksFor words request.now → IfOk result (λ p. Out words text.now p) }
 {
-    match made_by(alloc, command.pass, source)? {
-        Some(made) => Ok(succeed(alloc, print_tree(alloc, &made)?)),
-        None => refuse(alloc, Status::Refused, "refused: text at 0: NotBuilt"),
+    match &request.run {
+        None => printed(alloc, request, source),
+        Some(run) => run_twice(alloc, request, run, source),
     }
 }
 

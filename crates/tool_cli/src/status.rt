@@ -5,13 +5,13 @@ ghost use Rattle.std.specs.Prelude.{◌≡◌};
 /// How a run ended. The exit status of each is its place in this list, counted from 0.
 #[derive(Clone, Copy, PartialEq, Eq, Debug)]
 pub enum Status {
-    /// The module was printed.
+    /// The module behind the pipeline was printed, and no pass failed.
     Ok,
-    /// The words are not in the command set.
+    /// The words are not in the command set, or the text of the pipeline is refused.
     Usage,
-    /// The text is no module that the program takes.
+    /// The text is no module, or the module breaks a rule.
     Refused,
-    /// A pass failed.
+    /// A pass failed; the module that was left is printed all the same.
     PassFailed,
     /// The input could not be read.
     ReadFault,

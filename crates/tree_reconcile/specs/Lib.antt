@@ -1,4 +1,5 @@
 pub mod Examples
+pub mod Leaves
 pub mod Lines
 pub mod Plans
 pub mod Rounds

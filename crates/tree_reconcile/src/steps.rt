@@ -106,7 +106,8 @@ fn without_pair(alloc: Global, pair: (u32, u32), f: &OpTree) -> Result<OpTree, N
     let mut to = StandIns::new(alloc);
     to.replace(pair.0, pair.1)?;
     let gone = OneResult { number: pair.0 };
-    let tree = op_edited(alloc, &to, &gone, f)?;
+    let copy = copy_op(alloc, f)?;
+    let tree = op_edited(alloc, &to, &gone, copy)?;
     Ok(tree)
 }
 
@@ -124,10 +125,10 @@ fn next_pair(alloc: Global, f: &OpTree) -> Result<Option<OpTree>, NoMemory>
 }
 
 /// The tree without casts that undo each other, in so many steps.
-pub(crate) fn pairs_by_steps(alloc: Global, f: &OpTree, room: usize) -> Result<OpTree, NoMemory>
-    ensures { IfOk result (λ g. plain_op g ≡ model.pairs_left_out room (plain_op f.now)) }
+pub(crate) fn pairs_by_steps(alloc: Global, f: OpTree, room: usize) -> Result<OpTree, NoMemory>
+    ensures { IfOk result (λ g. plain_op g ≡ model.pairs_left_out room (plain_op f)) }
 {
-    let mut tree = copy_op(alloc, f)?;
+    let mut tree = f;
     for step in 0..room {
         let Some(next) = next_pair(alloc, &tree)? else {
             return Ok(tree);
@@ -159,15 +160,16 @@ fn next_round(alloc: Global, f: &OpTree) -> Result<Option<OpTree>, NoMemory>
         return Ok(None);
     }
     let used = UsedValues { values };
-    let tree = op_edited(alloc, &StandIns::new(alloc), &used, f)?;
+    let copy = copy_op(alloc, f)?;
+    let tree = op_edited(alloc, &StandIns::new(alloc), &used, copy)?;
     Ok(Some(tree))
 }
 
 /// The tree without casts that are not used, in so many rounds.
-pub(crate) fn unused_by_rounds(alloc: Global, f: &OpTree, room: usize) -> Result<OpTree, NoMemory>
-    ensures { IfOk result (λ g. plain_op g ≡ model.unused_left_out room (plain_op f.now)) }
+pub(crate) fn unused_by_rounds(alloc: Global, f: OpTree, room: usize) -> Result<OpTree, NoMemory>
+    ensures { IfOk result (λ g. plain_op g ≡ model.unused_left_out room (plain_op f)) }
 {
-    let mut tree = copy_op(alloc, f)?;
+    let mut tree = f;
     for round in 0..room {
         let Some(next) = next_round(alloc, &tree)? else {
             return Ok(tree);

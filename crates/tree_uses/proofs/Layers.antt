@@ -1,5 +1,5 @@
 -- Each layer of a tree, and of the edited tree.
-use Rattle.std.proofs.Common.{◌≡◌, ℕ, Bool, true, false, List, [], ◌∷◌, map, refl, sym, ap, ◌∙◌}
+use Rattle.std.proofs.Common.{◌≡◌, ℕ, Bool, true, false, List, [], ◌∷◌, ◌++◌, map, refl, ap, ◌∙◌}
 use Rattle.std.specs.Prelude.{if◌then◌else◌}
 use Rattle.std.proofs.lemmas.Grind.{common_steps}
 use Rattle.tree_model.specs.declared.op_tree.OpTree.{OpTree, out-OpTree, roll-OpTree, fold_out-OpTree}
@@ -8,8 +8,8 @@ use Rattle.tree_model.specs.declared.op_tree.RegionTree.{RegionTree, out-RegionT
 use Rattle.tree_model.specs.declared.op_tree.BlockTree.TheOpen.{OpTree-F, BlockTree-F, RegionTree-F}
 use Rattle.tree_model.specs.declared.op_tree.BlockTree.TheFolds.{fold-roll-OpTree, fold-roll-BlockTree, fold-roll-RegionTree}
 use Rattle.plain_tree.specs.Attrs.{plain_entries}
-use Rattle.plain_tree.specs.Ops.{Op, op, Ops, end_of_ops, more_ops, Regions, end_of_regions, region, Blocks, end_of_blocks, block, PlainBlock, block_at, op_at, region_at, blocks_in, ops_in, regions_in, plain_op, plain_values}
-use Rattle.conversion_model.specs.Uses.{op_uses, op_without, ops_uses, ops_without, regions_uses, regions_without, blocks_uses, blocks_without}
+use Rattle.plain_tree.specs.Ops.{Op, op, more_ops, region, Blocks, block, PlainBlock, block_at, op_at, region_at, blocks_in, ops_in, regions_in, plain_op, plain_values}
+use Rattle.conversion_model.specs.Uses.{op_without, ops_uses, ops_without, regions_uses, regions_without, blocks_uses, blocks_without}
 use Rattle.tree_uses.specs.Edited.{block_edited, edited, kept, op_from, plain_block, plain_region, region_edited}
 
 kept_regions : (to : ℕ → ℕ) (test : Op → Bool) (rs : List Blocks) → regions_uses to (regions_without test (regions_in rs)) ≡ regions_in (map (region_edited to test) rs)
@@ -30,6 +30,21 @@ kept_one to test o os false e = ap (more_ops (edited to test o)) e
 kept_ops : (to : ℕ → ℕ) (test : Op → Bool) (os : List Op) → ops_uses to (ops_without test (ops_in os)) ≡ ops_in (kept to test os)
 kept_ops to test [] = refl
 kept_ops to test (o ∷ os) = kept_one to test o os (test o) (kept_ops to test os)
+
+-- one operation more
+one_more : (to : ℕ → ℕ) (test : Op → Bool) (b : Bool) (o : Op) (ks ls : List Op) → (if b then ks ++ ls else edited to test o ∷ (ks ++ ls)) ≡ (if b then ks else edited to test o ∷ ks) ++ ls
+one_more to test true o ks ls = refl
+one_more to test false o ks ls = refl
+
+pub kept_last : (to : ℕ → ℕ) (test : Op → Bool) (os : List Op) (o : Op) → kept to test (os ++ o ∷ []) ≡ kept to test os ++ kept to test (o ∷ [])
+kept_last to test [] o = refl
+kept_last to test (p ∷ os) o = ap (λ ks. if test p then ks else edited to test p ∷ ks) (kept_last to test os o) ∙ one_more to test (test p) p (kept to test os) (kept to test (o ∷ []))
+
+pub one_omitted : (to : ℕ → ℕ) (test : Op → Bool) (o : Op) → test o ≡ true → kept to test (o ∷ []) ≡ []
+one_omitted to test o e = ap (λ b. if b then [] else edited to test o ∷ []) e
+
+pub one_kept : (to : ℕ → ℕ) (test : Op → Bool) (o : Op) → test o ≡ false → kept to test (o ∷ []) ≡ edited to test o ∷ []
+one_kept to test o e = ap (λ b. if b then [] else edited to test o ∷ []) e
 
 pub op_plain_at : (o : OpTree) → plain_op o ≡ op_from (out-OpTree o).name (plain_entries (out-OpTree o).props) (plain_entries (out-OpTree o).attrs) (plain_values (out-OpTree o).results) (out-OpTree o).operands (map plain_region (out-OpTree o).regions) (out-OpTree o).successors
 unfolding plain_op plain_region op_from
@@ -69,6 +84,6 @@ pub region_made : (x : RegionTree-F BlockTree OpTree RegionTree) → plain_regio
 unfolding plain_block plain_region
 region_made x = fold-roll-RegionTree PlainBlock Op Blocks block_at op_at region_at x
 
-pub ruleset layers = (common_steps, op_edited_at, region_edited_at, block_edited_at)
+pub ruleset layers = (common_steps, op_edited_at, region_edited_at, block_edited_at, kept_last)
 
 pub ruleset makers = (common_steps, op_made, block_made, region_made)

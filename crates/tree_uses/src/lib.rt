@@ -2,7 +2,10 @@
 #![tactic(auto)]
 
 mod edit;
+mod lists;
+mod makers;
 mod omits;
 
 pub use edit::op_edited;
+pub use lists::turned;
 pub use omits::Omits;

@@ -4,4 +4,4 @@ use Rattle.conversion_model.specs.Reconciled as model
 use Rattle.tree_reconcile.proofs.steps.pairs_by_steps.Given as goal
 
 abbrev pub invariant-loop-step : goal.invariant-loop-step
-invariant-loop-step l = model.pairs_left_out (l.room - l.step) (plain_op l.tree) ≡ model.pairs_left_out l.room (plain_op l.f)
+invariant-loop-step l = model.pairs_left_out (l.room - l.step) (plain_op l.tree) ≡ model.pairs_left_out l.room (plain_op l.fn.f)

@@ -1,5 +1,0 @@
-pub mod Numbers
-pub mod Bodies
-pub mod Sound
-pub mod Formed
-pub mod Verified

@@ -1,0 +1,2 @@
+pub mod FreshRenames
+pub mod FoldRenames

@@ -1,0 +1,2 @@
+pub mod Llvm
+pub mod Trees

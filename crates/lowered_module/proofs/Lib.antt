@@ -1,0 +1,4 @@
+pub mod RisingLaws
+pub mod LineLaws
+pub mod NameLaws
+pub mod StepLaws

@@ -1,0 +1,9 @@
+pub mod Fitting
+pub mod Numbers
+pub mod Functions
+pub mod Files
+pub mod Events
+pub mod Once
+pub mod Bounds
+pub mod Texts
+pub mod ReadLaws

@@ -1,0 +1,4 @@
+pub mod Numbering
+pub mod States
+pub mod Levels
+pub mod Laws

@@ -1,0 +1,11 @@
+pub mod Turns
+pub mod States
+pub mod Runs
+pub mod Names
+pub mod Values
+pub mod Targets
+pub mod Labels
+pub mod Moves
+pub mod Parts
+pub mod Ops
+pub mod Modules

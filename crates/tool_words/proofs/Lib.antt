@@ -1,0 +1,16 @@
+pub mod App
+pub mod Names
+pub mod Rows
+pub mod Judge
+pub mod States
+pub mod Forms
+pub mod Turns
+pub mod Walked
+pub mod Matches
+pub mod Parse
+pub mod Made
+pub mod Utf
+pub mod Stages
+pub mod Kept
+pub mod Outside
+pub mod Fuel

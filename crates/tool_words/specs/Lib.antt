@@ -1,0 +1,10 @@
+pub mod Lists
+pub mod Words
+pub mod Parsed
+pub mod Uses
+pub mod Numbers
+pub mod Settings
+pub mod Pipelines
+pub mod Reading
+pub mod Promises
+pub mod Examples
