@@ -1,13 +1,15 @@
 -- What each part of the grammar does to the terms behind it.
-use Rattle.std.proofs.Common.{◌≡◌, ◌⊎◌, inl, inr, ℕ, ◌&&◌, Bool, true, false, List, [], ◌∷◌, ◌++◌, Option, refl, sym, ap, ◌∙◌, subst, true≢false}
+use Rattle.std.proofs.Common.{◌≡◌, ◌⊎◌, inl, inr, ℕ, ◌&&◌, Bool, true, false, List, [], ◌∷◌, ◌++◌, map, Option, append_assoc, refl, sym, ap, ◌∙◌, subst, true≢false}
 use Rattle.line_grammar.specs.declared.Symbol.TheVariants as symbols
-use Rattle.line_grammar.specs.Grammar.{Has, here, later}
+use Rattle.line_grammar.specs.Grammar.{Has, Reads, done, here, later, leaves, opens, takes}
 use Rattle.line_grammar.specs.Conditions.{all_in}
+use Rattle.text_grammar.specs.declared.kinds.Kind.{Kind}
+use Rattle.text_grammar.specs.Places.{fits_at}
 use Rattle.text_grammar.specs.declared.places.Place.{Place}
 use Rattle.text_grammar.specs.declared.places.Place.TheVariants as places
 use Rattle.text_grammar.specs.declared.parts.Part.{Part}
 use Rattle.text_grammar.specs.declared.parts.Part.TheVariants as parts
-use Rattle.text_grammar.specs.Table.{TextLine, Wanted, lines_of}
+use Rattle.text_grammar.specs.Table.{TextLine, Wanted, generic, lines_of}
 use Rattle.text_events.specs.declared.event.Event.{Event}
 use Rattle.term_table.specs.declared.node.Form.TheVariants as forms
 use Rattle.term_table.specs.Terms.{Term, nothing}
@@ -15,7 +17,7 @@ use Rattle.text_types.specs.declared.action.Action.TheVariants.{Keep, Join, Wrap
 use Rattle.text_types.specs.Spelling.{Spelling}
 use Rattle.text_types.specs.Actions.{opens_types, results_of}
 use Rattle.text_types.specs.Items.{Aliases, acted, items, place_next}
-use Rattle.text_types.specs.Aliases.{is_nothing}
+use Rattle.text_types.specs.Aliases.{is_nothing, piece}
 use Rattle.text_types.specs.Marks.{arrow_next, closed, closed_at, is_arrow, marked}
 use Rattle.read_terms.specs.Begun.{AreBegun, BegunAt, are_types, is_refused, uses_alias}
 
@@ -26,6 +28,7 @@ event place name = record { place = place; name = name }
 abbrev pub is_tame : Place → Bool
 is_tame places.SignatureOpen = false
 is_tame places.ArgName = false
+is_tame places.TypeAliasName = false
 is_tame places.ResultsOpen = false
 is_tame places.ResultsClose = false
 is_tame _ = true
@@ -34,6 +37,7 @@ is_tame _ = true
 abbrev pub is_shut_part : Part → Bool
 is_shut_part parts.AfterResults = false
 is_shut_part parts.AfterInnerResults = false
+is_shut_part parts.File = false
 is_shut_part _ = true
 
 abbrev pub is_shut : Wanted → Bool
@@ -84,6 +88,22 @@ tame_closed places.ResultsOpen b cs h = absurd (true≢false (sym h))
 tame_closed places.ResultsClose b cs h = absurd (true≢false (sym h))
 tame_closed _ b cs h = refl
 
+-- Readings
+
+abbrev pub places_of : List Event → List Place
+places_of es = map (λ (e : Event). e.place) es
+
+places_join : (xs ys : List Event) → places_of (xs ++ ys) ≡ places_of xs ++ places_of ys
+places_join [] ys = refl
+places_join (x ∷ xs) ys = ap (λ ps. x.place ∷ ps) (places_join xs ys)
+
+pub reads_join : {ss tt' : List Wanted} {ps qs : List Place} {ks js : List Kind} → Reads generic ss ps ks → Reads generic tt' qs js → Reads generic (ss ++ tt') (ps ++ qs) (ks ++ js)
+reads_join done r = r
+reads_join (takes p k f more) r = takes p k f (reads_join more r)
+reads_join {tt'} {qs} {js} (opens n line k {ss} {ps} {ks} has f more) r =
+    opens n line k has f (subst (λ (us : List Wanted). Reads generic us (ps ++ qs) (ks ++ js)) (append_assoc line.1 ss tt') (reads_join more r))
+reads_join (leaves n e more) r = leaves n e (reads_join more r)
+
 module _ (words : Spelling) (aliases : Aliases) where
   abbrev pub it : List Event → List Term
   it x = items words aliases (marked x)
@@ -94,6 +114,8 @@ module _ (words : Spelling) (aliases : Aliases) where
   -- one word
   pub record Takes (p : Place) (x y : List Event) : Type 0 where
     pub name : ℕ
+    pub kind : Kind
+    pub fits : fits_at p kind ≡ true
     pub is : x ≡ event p name ∷ y
     pub supported : is_refused p ≡ false
     pub stands : uses_alias p ≡ true → is_nothing (aliases name) ≡ false
@@ -157,6 +179,13 @@ module _ (words : Spelling) (aliases : Aliases) where
     pub calm : Calm x y
     pub is : it x ≡ nothing ∷ it y
 
+  -- a file, from here to the end of the text
+  pub record Whole (x : List Event) : Type 0 where
+    pub closed_is : closed x ≡ []
+    pub begun : Begun x
+    pub shut : arrow_next x ≡ false
+    pub ends : piece (marked x) ≡ []
+
   -- what stands for each part, where no arrow stands behind it
   abbrev pub means : Part → List Event → List Event → Type 0
   means parts.OneType x y = OneTerm x y
@@ -173,12 +202,20 @@ module _ (words : Spelling) (aliases : Aliases) where
   means parts.AfterInnerResults x y = (x ≡ y) ⊎ Arrowed x y
   means parts.Dimensions x y = Sizes x y
   means parts.MemrefEnd x y = Ended x y
+  means parts.File x y = y ≡ [] → Whole x
   means _ x y = Calm x y
+
+  -- words that are read as these symbols
+  pub record Sub (ss : List Wanted) (x y : List Event) : Type 0 where
+    pub own : List Event
+    pub kinds : List Kind
+    pub reads : Reads generic ss (places_of own) kinds
+    pub is : x ≡ own ++ y
 
   pub data Spans : List Wanted → List Event → List Event → Type 0 where
     spans_end : (x : List Event) → Spans [] x x
     spans_at : (p : Place) {ss : List Wanted} {x y z : List Event} → Takes p x y → Spans ss y z → Spans (symbols.At p ∷ ss) x z
-    spans_part : (n : Part) {ss : List Wanted} {x y z : List Event} → (arrow_next y ≡ false → means n x y) → Spans ss y z → Spans (symbols.Part n ∷ ss) x z
+    spans_part : (n : Part) {ss : List Wanted} {x y z : List Event} → Sub (symbols.Part n ∷ []) x y → (arrow_next y ≡ false → means n x y) → Spans ss y z → Spans (symbols.Part n ∷ ss) x z
 
   pub record Cut (xs ys : List Wanted) (x z : List Event) : Type 0 where
     pub mid : List Event
@@ -188,7 +225,20 @@ module _ (words : Spelling) (aliases : Aliases) where
   pub cut : (xs ys : List Wanted) {x z : List Event} → Spans (xs ++ ys) x z → Cut xs ys x z
   cut [] ys {x} s = record { mid = x; front = spans_end x; back = s }
   cut (symbols.At p ∷ xs) ys (spans_at _ t s) = let c = cut xs ys s in record { mid = c.mid; front = spans_at p t c.front; back = c.back }
-  cut (symbols.Part n ∷ xs) ys (spans_part _ t s) = let c = cut xs ys s in record { mid = c.mid; front = spans_part n t c.front; back = c.back }
+  cut (symbols.Part n ∷ xs) ys (spans_part _ u t s) = let c = cut xs ys s in record { mid = c.mid; front = spans_part n u t c.front; back = c.back }
+
+  pub sub_of : (ss : List Wanted) {x y : List Event} → Spans ss x y → Sub ss x y
+  sub_of [] (spans_end x) = record { own = []; kinds = []; reads = done; is = refl }
+  sub_of (symbols.At p ∷ ss) (spans_at _ m s) =
+      let r = sub_of ss s in record { own = event p m.name ∷ r.own; kinds = m.kind ∷ r.kinds; reads = takes p m.kind m.fits r.reads; is = m.is ∙ ap (λ es. event p m.name ∷ es) r.is }
+  sub_of (symbols.Part n ∷ ss) {x} {y} (spans_part _ u t s) =
+      let r = sub_of ss s in
+      record {
+        own = u.own ++ r.own;
+        kinds = u.kinds ++ r.kinds;
+        reads = subst (λ (ps : List Place). Reads generic (symbols.Part n ∷ ss) ps (u.kinds ++ r.kinds)) (sym (places_join u.own r.own)) (reads_join u.reads r.reads);
+        is = u.is ∙ ap (λ es. u.own ++ es) r.is ∙ sym (append_assoc u.own r.own y);
+      }
 
   -- Words that are quiet
 
@@ -198,6 +248,7 @@ module _ (words : Spelling) (aliases : Aliases) where
   tame_begun : (p : Place) (e : Event) (es : List Event) → is_tame p ≡ true → BegunAt words aliases p e es
   tame_begun places.SignatureOpen e es h = absurd (true≢false (sym h))
   tame_begun places.ArgName e es h = absurd (true≢false (sym h))
+  tame_begun places.TypeAliasName e es h = absurd (true≢false (sym h))
   tame_begun _ e es h = tt
 
   pub shut_word : {p : Place} {x y : List Event} → is_arrow p ≡ false → Takes p x y → arrow_next x ≡ false
@@ -224,6 +275,7 @@ module _ (words : Spelling) (aliases : Aliases) where
   pub calm_part : (n : Part) {x y : List Event} → is_shut_part n ≡ true → means n x y → Calm x y
   calm_part parts.AfterResults h m = absurd (true≢false (sym h))
   calm_part parts.AfterInnerResults h m = absurd (true≢false (sym h))
+  calm_part parts.File h m = absurd (true≢false (sym h))
   calm_part parts.OneType h m = m.calm
   calm_part parts.InnerType h m = m.calm
   calm_part parts.IntegerType h m = m.calm
@@ -247,7 +299,7 @@ module _ (words : Spelling) (aliases : Aliases) where
   tame_spans (symbols.At p ∷ ss) h (spans_at _ m s) e =
       let rest = tame_spans ss (and_two (is_tame p) (are_tame ss) h) s e in
       record { quiet = quiet_join (quiet_word (and_one (is_tame p) (are_tame ss) h) m) rest.quiet; shut = λ k. shut_word (shut_arrow p k) m }
-  tame_spans (symbols.Part n ∷ ss) h (spans_part _ m s) e =
+  tame_spans (symbols.Part n ∷ ss) h (spans_part _ u m s) e =
       let more = and_two (is_shut_part n) (start_shut ss && are_tame ss) h in
       let rest = tame_spans ss (and_two (start_shut ss) (are_tame ss) more) s e in
       let c = calm_part n (and_one (is_shut_part n) (start_shut ss && are_tame ss) h) (m (rest.shut (and_one (start_shut ss) (are_tame ss) more))) in

@@ -56,7 +56,7 @@ module _ (words : Spelling) (aliases : Aliases) where
   does m = ap (λ es. items words aliases (marked es)) m.is
 
   -- and where it stands
-  stands_at : {p : Place} {x y : List Event} (m : Moves p x y) → after x ≡ Some (marked_at p (arrow_next y) (first_or_false (closed y)))
+  pub stands_at : {p : Place} {x y : List Event} (m : Moves p x y) → after x ≡ Some (marked_at p (arrow_next y) (first_or_false (closed y)))
   stands_at m = ap (λ es. place_next (marked es)) m.is
 
   some_integer : (o : Option ℕ) (t : Term) (rest : List Term) → SomeOn words aliases (acted t (integer_of o) rest) rest
@@ -75,19 +75,19 @@ module _ (words : Spelling) (aliases : Aliases) where
   some_by : {ts us rest : List Term} → ts ≡ us → SomeOn words aliases us rest → SomeOn words aliases ts rest
   some_by e s = record { term = s.term; some = s.some; is = e ∙ s.is }
 
-  list_by : {ts us rest : List Term} → ts ≡ us → ListOn words aliases us rest → ListOn words aliases ts rest
+  pub list_by : {ts us rest : List Term} → ts ≡ us → ListOn words aliases us rest → ListOn words aliases ts rest
   list_by e s = record { list = s.list; good = s.good; is = e ∙ s.is }
 
   -- The rests of types
 
   struct_list : {x y : List Event} → Spans words aliases struct_rest x y → ListOn words aliases (over x) (over y)
-  struct_list (spans_at _ less (spans_at _ begins (spans_part _ types (spans_at _ closes (spans_at _ greater (spans_end _)))))) =
+  struct_list (spans_at _ less (spans_at _ begins (spans_part _ _ types (spans_at _ closes (spans_at _ greater (spans_end _)))))) =
       let t = types (shut_word words aliases refl closes) in
       let l = t.begins (ap opens_types (stands_at closes)) nothing _ refl (does closes ∙ does greater) (aliases begins.name) in
       list_by (does less ∙ does begins) l
 
   array_some : {x y : List Event} → arrow_next y ≡ false → Spans words aliases array_rest x y → SomeOn words aliases (over x) (over y)
-  array_some e (spans_at _ less (spans_at _ number (spans_at _ by (spans_part _ element (spans_at _ greater (spans_end _)))))) =
+  array_some e (spans_at _ less (spans_at _ number (spans_at _ by (spans_part _ _ element (spans_at _ greater (spans_end _)))))) =
       let t = element (shut_word words aliases refl greater) in
       record {
         term = node forms.Array (capped (words.number number.name)) t.begins.term nothing;
@@ -97,7 +97,7 @@ module _ (words : Spelling) (aliases : Aliases) where
 
   -- of a function of the llvm dialect
   parameters_two : {x y : List Event} → Spans words aliases llvm_function_rest x y → SomeOn words aliases (joined forms.LlvmFunc 0 (over x)) (over y)
-  parameters_two (spans_at _ less (spans_part _ output (spans_at _ begins (spans_part _ types (spans_at _ closes (spans_at _ greater (spans_end _))))))) =
+  parameters_two (spans_at _ less (spans_part _ _ output (spans_at _ begins (spans_part _ _ types (spans_at _ closes (spans_at _ greater (spans_end _))))))) =
       let o = output (shut_word words aliases refl begins) in
       let t = types (shut_word words aliases refl closes) in
       let l = list_by (does begins) (t.begins (ap opens_types (stands_at closes)) nothing _ refl (does closes ∙ does greater) (aliases begins.name)) in
@@ -130,7 +130,7 @@ module _ (words : Spelling) (aliases : Aliases) where
       let l = struct_list s in one_of m (λ _ _. refl) (λ _ _. refl) c (record { term = node forms.Struct 0 l.list nothing; some = refl; is = does m ∙ ap (wrapped forms.Struct 0) l.is })
   plain_line element same line (later _ (later _ (later _ (later _ (later _ (here _)))))) m s e c = one_of m (λ _ _. refl) (λ _ _. refl) c (some_by (does m) (array_some e s))
   plain_line element same line (later _ (later _ (later _ (later _ (later _ (later _ (here _))))))) m s e c = one_of m (λ _ _. refl) (λ _ _. refl) c (some_by (does m) (parameters_two s))
-  plain_line element same line (later _ (later _ (later _ (later _ (later _ (later _ (later _ (here _)))))))) m (spans_at _ less (spans_part _ sizes (spans_part _ one (spans_part _ ends (spans_end _))))) e c =
+  plain_line element same line (later _ (later _ (later _ (later _ (later _ (later _ (later _ (here _)))))))) m (spans_at _ less (spans_part _ _ sizes (spans_part _ _ one (spans_part _ _ ends (spans_end _))))) e c =
       let end = ends e in
       let t = same _ _ (one end.calm.shut) in
       let d = (sizes t.calm.shut).begins t.begins.term (nothing ∷ _) t.begins.some (t.begins.is ∙ ap (λ ts. t.begins.term ∷ ts) end.is) in
@@ -153,12 +153,12 @@ module _ (words : Spelling) (aliases : Aliases) where
       record { term = node forms.Func 0 l.list r.list; some = refl; is = does begins ∙ ap (joined forms.Func 0) l.is }
 
   function_line : (line : TextLine) {x a y : List Event} → Has line function_type → Moves line.0 x a → Spans words aliases line.1 a y → arrow_next y ≡ false → Calm words aliases x y → OneTerm words aliases x y
-  function_line line (here _) m (spans_part _ types (spans_at _ closes (spans_at _ arrow (spans_part _ results (spans_end _))))) e c =
+  function_line line (here _) m (spans_part _ _ types (spans_at _ closes (spans_at _ arrow (spans_part _ _ results (spans_end _))))) e c =
       one_of m (λ _ _. refl) (λ _ _. refl) c (function_some m (types (shut_word words aliases refl closes)) closes arrow (results e))
   function_line line (later _ x) m s e c = elim x [ ]
 
   inner_function_line : (line : TextLine) {x a y : List Event} → Has line inner_function_type → Moves line.0 x a → Spans words aliases line.1 a y → arrow_next y ≡ false → Calm words aliases x y → OneTerm words aliases x y
-  inner_function_line line (here _) m (spans_part _ types (spans_at _ closes (spans_at _ arrow (spans_part _ results (spans_end _))))) e c =
+  inner_function_line line (here _) m (spans_part _ _ types (spans_at _ closes (spans_at _ arrow (spans_part _ _ results (spans_end _))))) e c =
       one_of m (λ _ _. refl) (λ _ _. refl) c (function_some m (types (shut_word words aliases refl closes)) closes arrow (results e))
   inner_function_line line (later _ x) m s e c = elim x [ ]
 
@@ -238,7 +238,7 @@ module _ (words : Spelling) (aliases : Aliases) where
           with_rest c = with_more c.back c.front
             where
               with_more : {z : List Event} → Spans words aliases (symbols.Part parts.MoreTypes ∷ []) z y → Spans words aliases r.short.1 a z → Several words aliases x y
-              with_more (spans_part _ more (spans_end _)) front =
+              with_more (spans_part _ _ more (spans_end _)) front =
                   let rest = more e in several (type_line r.short r.has (subst (λ (l : TextLine). Moves l.0 x a) r.is m) front rest.calm.shut) rest
 
   pub inner_types_line : (line : TextLine) {x a y : List Event} → Has line (lines_of parts.InnerTypes) → Moves line.0 x a → Spans words aliases line.1 a y → arrow_next y ≡ false → Several words aliases x y
@@ -251,7 +251,7 @@ module _ (words : Spelling) (aliases : Aliases) where
           with_rest c = with_more c.back c.front
             where
               with_more : {z : List Event} → Spans words aliases (symbols.Part parts.MoreInnerTypes ∷ []) z y → Spans words aliases r.short.1 a z → Several words aliases x y
-              with_more (spans_part _ more (spans_end _)) front =
+              with_more (spans_part _ _ more (spans_end _)) front =
                   let rest = more e in several (inner_type_line r.short r.has (subst (λ (l : TextLine). Moves l.0 x a) r.is m) front rest.calm.shut) rest
 
   -- and behind a comma
@@ -266,11 +266,11 @@ module _ (words : Spelling) (aliases : Aliases) where
   }
 
   pub more_line : (line : TextLine) {x a y : List Event} → Has line (lines_of parts.MoreTypes) → Moves line.0 x a → Spans words aliases line.1 a y → arrow_next y ≡ false → More words aliases x y
-  more_line line (here _) m (spans_part _ one (spans_part _ more (spans_end _))) e = let rest = more e in more_types m (one rest.calm.shut) rest
+  more_line line (here _) m (spans_part _ _ one (spans_part _ _ more (spans_end _))) e = let rest = more e in more_types m (one rest.calm.shut) rest
   more_line line (later _ z) m s e = elim z [ ]
 
   pub more_inner_line : (line : TextLine) {x a y : List Event} → Has line (lines_of parts.MoreInnerTypes) → Moves line.0 x a → Spans words aliases line.1 a y → arrow_next y ≡ false → More words aliases x y
-  more_inner_line line (here _) m (spans_part _ one (spans_part _ more (spans_end _))) e = let rest = more e in more_types m (one rest.calm.shut) rest
+  more_inner_line line (here _) m (spans_part _ _ one (spans_part _ _ more (spans_end _))) e = let rest = more e in more_types m (one rest.calm.shut) rest
   more_inner_line line (later _ z) m s e = elim z [ ]
 
   -- Results
@@ -359,12 +359,12 @@ module _ (words : Spelling) (aliases : Aliases) where
 
   in_pair : (line : TextLine) {x a y : List Event} → Has line ((places.ResultsOpen, symbols.Part parts.Types ∷ symbols.At places.ResultsClose ∷ symbols.Part parts.AfterResults ∷ []) ∷ []) → Moves line.0 x a → Spans words aliases line.1 a y → arrow_next y ≡ false
       → Results words aliases x y
-  in_pair line (here _) m (spans_part _ types (spans_at _ closes (spans_part _ rest (spans_end _)))) e = pair_results m (types (shut_word words aliases refl closes)) closes (rest e) e
+  in_pair line (here _) m (spans_part _ _ types (spans_at _ closes (spans_part _ _ rest (spans_end _)))) e = pair_results m (types (shut_word words aliases refl closes)) closes (rest e) e
   in_pair line (later _ z) m s e = elim z [ ]
 
   in_inner_pair : (line : TextLine) {x a y : List Event} → Has line ((places.ResultsOpen, symbols.Part parts.InnerTypes ∷ symbols.At places.ResultsClose ∷ symbols.Part parts.AfterInnerResults ∷ []) ∷ []) → Moves line.0 x a → Spans words aliases line.1 a y → arrow_next y ≡ false
       → Results words aliases x y
-  in_inner_pair line (here _) m (spans_part _ types (spans_at _ closes (spans_part _ rest (spans_end _)))) e = pair_results m (types (shut_word words aliases refl closes)) closes (rest e) e
+  in_inner_pair line (here _) m (spans_part _ _ types (spans_at _ closes (spans_part _ _ rest (spans_end _)))) e = pair_results m (types (shut_word words aliases refl closes)) closes (rest e) e
   in_inner_pair line (later _ z) m s e = elim z [ ]
 
   pub results_line : (line : TextLine) {x a y : List Event} → Has line (lines_of parts.Results) → Moves line.0 x a → Spans words aliases line.1 a y → arrow_next y ≡ false → Results words aliases x y
@@ -389,17 +389,17 @@ module _ (words : Spelling) (aliases : Aliases) where
   }
 
   pub after_line : (line : TextLine) {x a y : List Event} → Has line (lines_of parts.AfterResults) → Moves line.0 x a → Spans words aliases line.1 a y → arrow_next y ≡ false → Arrowed words aliases x y
-  after_line line (here _) m (spans_part _ r (spans_end _)) e = arrowed m (r e)
+  after_line line (here _) m (spans_part _ _ r (spans_end _)) e = arrowed m (r e)
   after_line line (later _ z) m s e = elim z [ ]
 
   pub after_inner_line : (line : TextLine) {x a y : List Event} → Has line (lines_of parts.AfterInnerResults) → Moves line.0 x a → Spans words aliases line.1 a y → arrow_next y ≡ false → Arrowed words aliases x y
-  after_inner_line line (here _) m (spans_part _ r (spans_end _)) e = arrowed m (r e)
+  after_inner_line line (here _) m (spans_part _ _ r (spans_end _)) e = arrowed m (r e)
   after_inner_line line (later _ z) m s e = elim z [ ]
 
   -- Memrefs
 
   pub sizes_line : (line : TextLine) {x a y : List Event} → Has line (lines_of parts.Dimensions) → Moves line.0 x a → Spans words aliases line.1 a y → arrow_next y ≡ false → Sizes words aliases x y
-  sizes_line line (here _) m (spans_at _ by (spans_part _ sizes (spans_end _))) e =
+  sizes_line line (here _) m (spans_at _ by (spans_part _ _ sizes (spans_end _))) e =
       let rest = sizes e in
       record {
         calm = calm_more words aliases refl refl m (quiet_join words aliases (quiet_word words aliases refl by) rest.calm.quiet);
