@@ -1,3 +1,4 @@
 pub mod Effects
 pub mod TypeLines
 pub mod Wholes
+pub mod Signs

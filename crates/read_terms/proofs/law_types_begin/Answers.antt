@@ -1,4 +1,5 @@
 use Rattle.read_terms.proofs.Wholes.{types_begin}
+use Rattle.read_terms.proofs.Signs.{names_apart}
 use Rattle.read_terms.proofs.law_types_begin.Goals as goal
 
 pub returns : goal.returns
