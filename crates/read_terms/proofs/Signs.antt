@@ -1,6 +1,6 @@
 -- The names of aliases of types and of attributes differ, since the words of the ones begin with `!` and those of the others with `#`.
-use Rattle.std.proofs.Common.{◌≡◌, ℕ, zero, suc, ◌+◌, ◌-◌, ◌≤◌, ◌==◌, Bool, true, false, List, [], ◌∷◌, ◌++◌, map, length, take, drop, Option, Some, None, cond, refl, sym, ap, ◌∙◌, subst, true≢false, arith, append_assoc, length-append}
-use Rattle.std.specs.Prelude.{position, slice_get, not, codes, nat_le, ◌&&◌, ◌||◌, if◌then◌else◌}
+use Rattle.std.proofs.Common.{◌≡◌, ℕ, zero, suc, ◌+◌, ◌-◌, ◌==◌, Bool, true, false, List, [], ◌∷◌, ◌++◌, map, length, take, drop, Option, Some, None, cond, refl, sym, ap, ◌∙◌, subst, true≢false, arith, append_assoc, length-append}
+use Rattle.std.specs.Prelude.{position, slice_get, not, codes, ◌&&◌, ◌||◌, if◌then◌else◌}
 use Rattle.std.specs.Option.{unwrap_or}
 use Rattle.std.specs.List.{position_from}
 use Rattle.std.specs.Str.{bytes_eq}
@@ -17,7 +17,7 @@ use Rattle.mlir_lex.specs.declared.TokenKind.TheVariants as token
 use Rattle.mlir_lex.specs.Text.{BeginsWith}
 use Rattle.mlir_lex.specs.Tokens.{IsName, IsToken}
 use Rattle.text_grammar.specs.declared.cuts.Mode.{Mode}
-use Rattle.text_grammar.specs.declared.cuts.Mode.TheVariants.{BehindMemref, By, Plain, Size}
+use Rattle.text_grammar.specs.declared.cuts.Mode.TheVariants.{By, Plain}
 use Rattle.text_grammar.specs.declared.kinds.Kind.{Kind}
 use Rattle.text_grammar.specs.declared.kinds.Kind.TheVariants as kinds
 use Rattle.text_grammar.specs.declared.places.Place.{Place}
@@ -28,7 +28,7 @@ use Rattle.text_grammar.specs.Steps.{kind_of}
 use Rattle.text_grammar.specs.TokenKinds.{has_dot, is_integer_type, bare_kind, bracket_kind, hash_kind, sign_kind, token_kind, type_kind, type_word}
 use Rattle.text_grammar.specs.Words.{AreWords, HasWord, WordsFrom, cut_kind, cut_len, mode_behind, part_kind, part_len, piece_of, word_of}
 use Rattle.text_events.specs.declared.event.Event.{Event}
-use Rattle.text_events.specs.Names.{is_sign, name_of, names_from, names_of, spells}
+use Rattle.text_events.specs.Names.{is_sign, name_of, names_from, spells}
 use Rattle.text_events.specs.Source.{events_from, is_own, spelled_of, spelled_or}
 use Rattle.text_events.specs.Spelling.{core, piece, spelled, unescaped}
 

@@ -1,6 +1,6 @@
 -- Each line of a type puts one term before those behind it.
 use Rattle.std.specs.Prelude.{not, if◌then◌else◌}
-use Rattle.std.proofs.Common.{◌≡◌, ◌⊎◌, inl, inr, ℕ, ◌&&◌, Bool, true, false, List, [], ◌∷◌, ◌++◌, map, Option, Some, None, refl, sym, ap, ◌∙◌, subst, true≢false}
+use Rattle.std.proofs.Common.{◌≡◌, ◌⊎◌, inl, inr, ℕ, ◌&&◌, Bool, true, false, List, [], ◌∷◌, ◌++◌, Option, Some, None, refl, sym, ap, ◌∙◌, subst, true≢false}
 use Rattle.line_grammar.specs.declared.Symbol.TheVariants as symbols
 use Rattle.line_grammar.specs.Grammar.{Has, here, later}
 use Rattle.text_grammar.specs.declared.places.Place.{Place}
@@ -11,15 +11,14 @@ use Rattle.text_grammar.specs.Table.{TextLine, Wanted, alone, array_rest, before
 use Rattle.text_events.specs.declared.event.Event.{Event}
 use Rattle.term_table.specs.declared.node.Form.TheVariants as forms
 use Rattle.term_table.specs.Terms.{Term, node, nothing}
-use Rattle.text_types.specs.declared.action.Action.{Action}
-use Rattle.text_types.specs.declared.action.Action.TheVariants.{Keep, Join, Put, Wrap}
+use Rattle.text_types.specs.declared.action.Action.TheVariants.{Keep, Join, Wrap}
 use Rattle.text_types.specs.Spelling.{Spelling}
 use Rattle.text_types.specs.Actions.{actions_at, capped, integer_of, opens_types, plain_of, results_of, size_of}
 use Rattle.text_types.specs.Items.{Aliases, acted, acted_both, items, joined, place_next, wrapped}
 use Rattle.text_types.specs.Aliases.{is_nothing}
-use Rattle.text_types.specs.Marks.{arrow_next, closed, closed_at, first_or_false, is_arrow, marked, marked_at, without_first}
-use Rattle.read_terms.specs.Begun.{AreBegun, BegunAt, are_types, is_refused, uses_alias}
-use Rattle.read_terms.proofs.Effects.{Arrowed, Calm, Cut, Ended, ListOn, More, OneTerm, Quiet, Results, Several, Sizes, SomeOn, Spans, Takes, ahead, begun_more, calm_line, calm_more, cut, event, is_tame_line, it, means, one_in, part_line, quiet_join, quiet_word, shut_word, spans_at, spans_end, spans_part}
+use Rattle.text_types.specs.Marks.{arrow_next, closed, first_or_false, marked, marked_at, without_first}
+use Rattle.read_terms.specs.Begun.{AreBegun, BegunAt, are_types, is_refused}
+use Rattle.read_terms.proofs.Effects.{Arrowed, Calm, Cut, Ended, ListOn, More, OneTerm, Results, Several, Sizes, SomeOn, Spans, Takes, ahead, begun_more, calm_line, calm_more, cut, event, is_tame_line, it, means, one_in, quiet_join, quiet_word, shut_word, spans_at, spans_end, spans_part}
 
 either : (ls ms : List TextLine) (line : TextLine) → Has line (ls ++ ms) → Has line ls ⊎ Has line ms
 either [] ms line has = inr has

@@ -1,6 +1,6 @@
 -- All words of a text.
 use Rattle.std.specs.Prelude.{drop, if◌then◌else◌}
-use Rattle.std.proofs.Common.{◌≡◌, ◌⊎◌, inl, inr, ℕ, Bool, true, false, List, [], ◌∷◌, ◌++◌, map, Option, append_assoc, refl, sym, ap, ◌∙◌, subst, true≢false}
+use Rattle.std.proofs.Common.{◌≡◌, inl, inr, ℕ, Bool, true, false, List, [], ◌∷◌, ◌++◌, refl, sym, ap, ◌∙◌, subst, true≢false}
 use Rattle.line_grammar.specs.declared.Symbol.TheVariants as symbols
 use Rattle.line_grammar.specs.Grammar.{Has, Reads, done, here, later, leaves, opens, takes}
 use Rattle.line_grammar.specs.Conditions.{all_in}
@@ -11,19 +11,18 @@ use Rattle.text_grammar.specs.declared.parts.Part.{Part}
 use Rattle.text_grammar.specs.declared.parts.Part.TheVariants as parts
 use Rattle.text_grammar.specs.Places.{fits_at}
 use Rattle.text_grammar.specs.Table.{TextLine, Wanted, empty_at, generic, lines_of}
-use Rattle.text_grammar.specs.Text.{start}
 use Rattle.text_events.specs.declared.event.Event.{Event}
 use Rattle.term_table.specs.declared.node.Form.TheVariants as forms
-use Rattle.term_table.specs.Terms.{Term, node, nothing}
+use Rattle.term_table.specs.Terms.{nothing}
 use Rattle.text_types.specs.Spelling.{Spelling}
 use Rattle.text_types.specs.Actions.{opens_types}
 use Rattle.text_types.specs.Items.{Aliases, acted, first_of, items, joined}
 use Rattle.text_types.specs.Aliases.{is_nothing, is_start, piece}
 use Rattle.text_types.specs.Marks.{arrow_next, closed, first_or_false, marked, marked_at}
 use Rattle.text_forms.specs.Forms.{Run, run_end, run_more}
-use Rattle.read_terms.specs.Begun.{AreBegun, AreServed, BegunAt, IsDefined, IsFunction}
+use Rattle.read_terms.specs.Begun.{AreBegun, AreServed, IsDefined, IsFunction}
 use Rattle.read_terms.specs.Laws.{TypesBegin}
-use Rattle.read_terms.proofs.Effects.{Arrowed, Calm, Cut, Ended, ListOn, More, OneTerm, Quiet, Results, Several, Sizes, SomeOn, Spans, Sub, Takes, Tame, Whole, are_tame, begun_more, calm_more, calm_refl, cut, event, is_shut_part, is_tame_line, it, means, part_line, places_of, quiet_join, quiet_word, reads_join, shut_word, spans_at, spans_end, spans_part, sub_of, tame_spans}
+use Rattle.read_terms.proofs.Effects.{Calm, More, OneTerm, Quiet, Results, Several, Spans, Sub, Takes, Whole, begun_more, calm_more, calm_refl, cut, event, is_tame_line, it, means, part_line, places_of, quiet_join, quiet_word, shut_word, spans_at, spans_end, spans_part, sub_of, tame_spans}
 use Rattle.read_terms.proofs.TypeLines.{after_inner_line, after_line, does, element_line, ended_line, inner_results_line, inner_type_line, inner_types_line, list_by, more_inner_line, more_line, results_line, sizes_line, stands_at, type_line, types_line}
 
 -- parts whose lines are tame, and of which nothing more is asked

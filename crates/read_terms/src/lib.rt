@@ -3,9 +3,6 @@
 //! A crate of laws.
 #![tactic(auto)]
 
-ghost use Rattle.read_terms.specs.Laws.{TypesBegin};
+mod laws;
 
-/// In the words of a text in which each alias of a type that is used stands for something, each function type begins a term that is one, and each type of an argument begins a term.
-pub fn law_types_begin()
-    ensures { TypesBegin }
-{}
+pub use laws::{law_text_types_begin, law_types_begin};
