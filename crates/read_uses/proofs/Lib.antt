@@ -1,1 +1,4 @@
 pub mod Finely
+pub mod Coarse
+pub mod Moves
+pub mod Texts

@@ -1,5 +1,5 @@
 -- Texts in the order of the grammar, where also the names of results and the operands of an operation are told from other words: a finer form than that of `text_forms`.
-use Rattle.std.specs.Prelude.{◌≡◌, ◌&&◌, Bool, true, false}
+use Rattle.std.specs.Prelude.{◌≡◌, Bool, true, false}
 use Rattle.text_grammar.specs.declared.places.Place.{Place}
 use Rattle.text_grammar.specs.declared.places.Place.TheVariants as places
 use Rattle.text_forms.specs.Forms.{is_alias, is_still}

@@ -1,2 +1,4 @@
 pub mod Fine
+pub mod Moved
+pub mod Texts
 pub mod Laws

@@ -1,8 +1,8 @@
-//! The uses of what a text reads as.
+//! The uses of what a text reads as: a text that reads is a file of moves, each of which says what the event at it defines or uses.
 //!
 //! A crate of laws.
 #![tactic(auto)]
 
 mod laws;
 
-pub use laws::law_reads_finely;
+pub use laws::{law_reads_as_run, law_reads_finely};
