@@ -2,3 +2,4 @@ pub mod Finely
 pub mod Coarse
 pub mod Moves
 pub mod Texts
+pub mod Ranges

@@ -1,5 +1,18 @@
 -- What is read has the finer form of a file.
-use Rattle.std.specs.Prelude.{ℕ, Bool, List, []}
+use Rattle.std.specs.Prelude.{◌≡◌, ◌<◌, ℕ, Bool, true, false, List, [], length, drop, get_or, Some, is_some}
+use Rattle.text_grammar.specs.declared.places.Place.TheVariants as places
+use Rattle.text_events.specs.declared.event.Event.{Event}
+use Rattle.term_table.specs.Terms.{Term, nothing}
+use Rattle.text_types.specs.Spelling.{Spelling}
+use Rattle.text_types.specs.Items.{Aliases}
+use Rattle.text_types.specs.Aliases.{is_nothing}
+use Rattle.text_types.specs.Marks.{marked}
+use Rattle.text_scopes.specs.declared.bodies.Class.{Class}
+use Rattle.use_kinds.specs.Clashes.{index_of, place_from}
+use Rattle.use_kinds.specs.Written.{no_operation, types_from}
+use Rattle.event_trees.specs.Wording.{Wording}
+use Rattle.event_trees.specs.Numbers.{first_of}
+use Rattle.read_uses.specs.Moved.{Full, Moved}
 use Rattle.tree_model.specs.declared.op_tree.ModuleTree.{ModuleTree}
 use Rattle.tree_reading.specs.Reading.{Reads}
 use Rattle.read_uses.specs.Texts.{IsRun}
@@ -17,3 +30,10 @@ ReadsFinely = (places : List Place) (kinds : List Kind) → Written generic star
 -- each text that reads as a module is such moves
 abbrev pub ReadsAsRun : Type 0
 ReadsAsRun = (text : List ℕ) (allowed : Bool) (A : ModuleTree) → Reads text allowed A → IsRun text A
+
+-- the index of a use is below the number of types that its definition has, where what begins at both is whole and the use has a type
+abbrev pub IndexInRange : Type 0
+IndexInRange = (sp : Spelling) (index : ℕ → ℕ) (aliases : Aliases) (words : Wording) (class : ℕ → Class) (all : List Event) (numbers : List ℕ) (types : List (List Term)) (x y : Full) (d : ℕ) → types ≡ types_from sp aliases no_operation (marked all)
+    → Moved sp index aliases words class all numbers types places.UseName x y → first_of x.state.left.values ≡ Some d → is_some (place_from sp index aliases (marked all) (drop (length x.before) (marked all))) ≡ true
+    → is_some (place_from sp index aliases (marked all) (drop d (marked all))) ≡ true → is_nothing (get_or (get_or types (length x.before) []) 0 nothing) ≡ false
+    → index_of index (marked y.state.events) < length (get_or types d [])

@@ -1,6 +1,6 @@
 //! Laws of uses, each the contract of a function that does nothing.
 
-ghost use Rattle.read_uses.specs.Laws.{ReadsAsRun, ReadsFinely};
+ghost use Rattle.read_uses.specs.Laws.{IndexInRange, ReadsAsRun, ReadsFinely};
 
 /// What the grammar reads is operations and aliases, where each operation has the names of its results before it, and its operands behind its name.
 pub fn law_reads_finely()
@@ -10,4 +10,9 @@ pub fn law_reads_finely()
 /// The events of each text that reads as a module are such a file of moves: each use finds a definition with which it agrees, and each function type has as many inputs as there are operands.
 pub fn law_reads_as_run()
     ensures { ReadsAsRun }
+{}
+
+/// At a move of a use whose type is something, and at which as at its definition the types are whole, the index of the use is one of the values that the definition has types for.
+pub fn law_index_in_range()
+    ensures { IndexInRange }
 {}
