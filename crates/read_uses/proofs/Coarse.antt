@@ -4,6 +4,8 @@ use Rattle.text_grammar.specs.declared.places.Place.{Place}
 use Rattle.text_grammar.specs.declared.places.Place.TheVariants as places
 use Rattle.text_forms.specs.Forms as forms
 use Rattle.text_forms.specs.Forms.{IsArgs, IsBlocks, IsBody, IsFile, IsLoc, IsNames, IsOps, IsRegions, Still, is_still, still_end, still_more}
+use Rattle.text_forms.specs.Laws.{Next}
+use Rattle.read_uses.specs.Laws.{FinerForm}
 use Rattle.read_uses.specs.Fine.{Args, Blocks, Body, Counting, File, Loc, Mute, Names, Ops, Regions, Uses, a_use, arg, block, body, file_alias, file_op, is_mute, last_name, loc, many, mute_end, mute_more, next_name, no_args, no_blocks, no_file, no_loc, no_names, no_ops, no_regions, no_uses, one, op, region}
 
 pub mute_still : (p : Place) → is_mute p ≡ true → is_still p ≡ true
@@ -64,3 +66,6 @@ module _ {X : Type 0} {Y : Type 0} (T : Place → X → X → Type 0) (U : Place
   file_coarse (no_file x) = forms.no_file (f x)
   file_coarse (file_op names o b more) = forms.file_op (names_coarse names) (step _ _ _ o) (body_coarse b) (file_coarse more)
   file_coarse (file_alias p h m s l more) = forms.file_alias p h (step _ _ _ m) (mute_coarse s) (loc_coarse l) (file_coarse more)
+
+pub finer_form : FinerForm
+finer_form places behind f = file_coarse Next Next (λ ps. ps) (λ p x y m. m) f

@@ -3,3 +3,4 @@ pub mod Coarse
 pub mod Moves
 pub mod Texts
 pub mod Ranges
+pub mod Signatures

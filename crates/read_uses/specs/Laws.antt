@@ -4,12 +4,12 @@ use Rattle.text_grammar.specs.declared.places.Place.TheVariants as places
 use Rattle.text_events.specs.declared.event.Event.{Event}
 use Rattle.term_table.specs.Terms.{Term, nothing}
 use Rattle.text_types.specs.Spelling.{Spelling}
-use Rattle.text_types.specs.Items.{Aliases}
+use Rattle.text_types.specs.Items.{Aliases, begins}
 use Rattle.text_types.specs.Aliases.{is_nothing}
 use Rattle.text_types.specs.Marks.{marked}
 use Rattle.text_scopes.specs.declared.bodies.Class.{Class}
 use Rattle.use_kinds.specs.Clashes.{index_of, place_from}
-use Rattle.use_kinds.specs.Written.{no_operation, types_from}
+use Rattle.use_kinds.specs.Written.{no_operation, signature_behind, types_from}
 use Rattle.event_trees.specs.Wording.{Wording}
 use Rattle.event_trees.specs.Numbers.{first_of}
 use Rattle.read_uses.specs.Moved.{Full, Moved}
@@ -21,8 +21,10 @@ use Rattle.text_grammar.specs.declared.kinds.Kind.{Kind}
 use Rattle.text_grammar.specs.declared.places.Place.{Place}
 use Rattle.text_grammar.specs.Table.{generic}
 use Rattle.text_grammar.specs.Text.{start}
+use Rattle.text_forms.specs.Forms.{IsFile}
 use Rattle.text_forms.specs.Laws.{Next}
-use Rattle.read_uses.specs.Fine.{File}
+use Rattle.read_terms.specs.Begun.{IsFunction}
+use Rattle.read_uses.specs.Fine.{Body, File}
 
 abbrev pub ReadsFinely : Type 0
 ReadsFinely = (places : List Place) (kinds : List Kind) → Written generic start places kinds → File Next places []
@@ -37,3 +39,12 @@ IndexInRange = (sp : Spelling) (index : ℕ → ℕ) (aliases : Aliases) (words 
     → Moved sp index aliases words class all numbers types places.UseName x y → first_of x.state.left.values ≡ Some d → is_some (place_from sp index aliases (marked all) (drop (length x.before) (marked all))) ≡ true
     → is_some (place_from sp index aliases (marked all) (drop d (marked all))) ≡ true → is_nothing (get_or (get_or types (length x.before) []) 0 nothing) ≡ false
     → index_of index (marked y.state.events) < length (get_or types d [])
+
+-- behind the name of an operation its function type begins a term that is one, whatever stands between
+abbrev pub FunctionBehind : Type 0
+FunctionBehind = (sp : Spelling) (index : ℕ → ℕ) (aliases : Aliases) (words : Wording) (class : ℕ → Class) (all : List Event) (numbers : List ℕ) (types : List (List Term)) (x y : Full)
+    → Body (λ p a b. Moved sp index aliases words class all numbers types p a b) x y → IsFunction (begins sp aliases (signature_behind (marked x.state.events) 0))
+
+-- the finer form is a form
+abbrev pub FinerForm : Type 0
+FinerForm = (places behind : List Place) → File Next places behind → IsFile Next places behind

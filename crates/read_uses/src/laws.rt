@@ -1,6 +1,6 @@
 //! Laws of uses, each the contract of a function that does nothing.
 
-ghost use Rattle.read_uses.specs.Laws.{IndexInRange, ReadsAsRun, ReadsFinely};
+ghost use Rattle.read_uses.specs.Laws.{FinerForm, FunctionBehind, IndexInRange, ReadsAsRun, ReadsFinely};
 
 /// What the grammar reads is operations and aliases, where each operation has the names of its results before it, and its operands behind its name.
 pub fn law_reads_finely()
@@ -15,4 +15,14 @@ pub fn law_reads_as_run()
 /// At a move of a use whose type is something, and at which as at its definition the types are whole, the index of the use is one of the values that the definition has types for.
 pub fn law_index_in_range()
     ensures { IndexInRange }
+{}
+
+/// Behind the name of an operation its function type begins, which is whole, whatever operands and regions stand between.
+pub fn law_function_behind()
+    ensures { FunctionBehind }
+{}
+
+/// What has the finer form has the form of a file.
+pub fn law_finer_form()
+    ensures { FinerForm }
 {}

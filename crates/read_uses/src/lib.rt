@@ -5,4 +5,6 @@
 
 mod laws;
 
-pub use laws::{law_index_in_range, law_reads_as_run, law_reads_finely};
+pub use laws::{
+    law_finer_form, law_function_behind, law_index_in_range, law_reads_as_run, law_reads_finely,
+};
