@@ -7,7 +7,7 @@ pub fn law_reads_finely()
     ensures { ReadsFinely }
 {}
 
-/// The events of each text that reads as a module are such a file of moves: each use finds a definition with which it agrees, and each function type has as many inputs as there are operands.
+/// The events of each text that reads as a module are such a file of moves: each use finds a definition with which it does not clash, and no function type has other numbers of types than were counted before it.
 pub fn law_reads_as_run()
     ensures { ReadsAsRun }
 {}
