@@ -29,7 +29,7 @@ use Rattle.event_trees.specs.declared.counts.Counts.{Counts}
 use Rattle.event_trees.specs.Wording.{Wording}
 use Rattle.event_trees.specs.Numbers.{Left, defined_at, first_of, left_at, numbers_from, result_counts}
 use Rattle.text_forms.specs.Forms.{Run, run_end, run_more}
-use Rattle.read_terms.specs.Begun.{AreBegun}
+use Rattle.begun_types.specs.Begun.{AreBegun}
 use Rattle.read_states.specs.States.{Move, State, event}
 use Rattle.read_uses.specs.Moved.{Full, Moved, ahead, ends, mark}
 

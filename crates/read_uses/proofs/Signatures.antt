@@ -10,7 +10,7 @@ use Rattle.text_types.specs.Marks.{marked, marked_at}
 use Rattle.text_scopes.specs.declared.bodies.Class.{Class}
 use Rattle.use_kinds.specs.Written.{passed, signature_behind}
 use Rattle.event_trees.specs.Wording.{Wording}
-use Rattle.read_terms.specs.Begun.{IsFunction}
+use Rattle.begun_types.specs.Begun.{IsFunction}
 use Rattle.read_uses.specs.Fine.{Args, Blocks, Body, Counting, Loc, Mute, Names, Ops, Regions, Uses, a_use, arg, block, body, is_mute, last_name, loc, many, mute_end, mute_more, next_name, no_args, no_blocks, no_loc, no_names, no_ops, no_regions, no_uses, one, op, region}
 use Rattle.read_uses.specs.Laws.{FunctionBehind}
 use Rattle.read_uses.specs.Moved.{Full, Moved, ends}

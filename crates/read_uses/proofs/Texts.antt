@@ -69,7 +69,7 @@ use Rattle.use_kinds.specs.Written.{no_operation, types_from, written_from}
 use Rattle.text_refusals.specs.Spelling.{indexes_of}
 use Rattle.text_refusals.proofs.MarkedLemmas.{definitions_marked}
 use Rattle.read_states.proofs.Moves.{Runs, moves}
-use Rattle.read_terms.proofs.Texts.{text_types_begin}
+use Rattle.begun_types.proofs.Texts.{text_types_begin}
 use Rattle.read_uses.specs.Laws.{ReadsAsRun}
 use Rattle.read_uses.specs.Texts.{IsRun, MovesOf, begin_at}
 use Rattle.read_uses.proofs.Finely.{spanned}

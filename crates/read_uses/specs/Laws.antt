@@ -23,7 +23,7 @@ use Rattle.text_grammar.specs.Table.{generic}
 use Rattle.text_grammar.specs.Text.{start}
 use Rattle.text_forms.specs.Forms.{IsFile}
 use Rattle.text_forms.specs.Laws.{Next}
-use Rattle.read_terms.specs.Begun.{IsFunction}
+use Rattle.begun_types.specs.Begun.{IsFunction}
 use Rattle.read_uses.specs.Fine.{Body, File}
 
 abbrev pub ReadsFinely : Type 0

@@ -21,7 +21,7 @@ use Rattle.use_kinds.specs.Clashes.{clash_at}
 use Rattle.use_kinds.specs.Written.{Waiting, argument_type, count_of, function_type, left_at as waits_behind, types_at}
 use Rattle.event_trees.specs.Wording.{Wording}
 use Rattle.event_trees.specs.Numbers.{defined_at, first_of}
-use Rattle.read_terms.specs.Begun.{BegunAt}
+use Rattle.begun_types.specs.Begun.{BegunAt}
 use Rattle.read_states.specs.States.{Move, State, event}
 
 pub record Full : Type 0 where

@@ -17,12 +17,12 @@ use Rattle.term_table.specs.Terms.{node, nothing}
 use Rattle.text_types.specs.Items.{Aliases}
 use Rattle.text_types.specs.Aliases.{aliases_of}
 use Rattle.text_types.specs.Marks.{marked}
-use Rattle.read_terms.specs.Begun.{AreServed}
-use Rattle.read_terms.specs.Laws.{TextTypesBegin}
-use Rattle.read_terms.proofs.Effects.{places_of}
-use Rattle.read_terms.proofs.Wholes.{types_begin}
-use Rattle.read_terms.proofs.Signs.{AllFit, all_spelt, names_apart, starts}
-use Rattle.read_terms.proofs.Known.{Unfaulted, served, unfaulted}
+use Rattle.begun_types.specs.Begun.{AreServed}
+use Rattle.begun_types.specs.Laws.{TextTypesBegin}
+use Rattle.begun_types.proofs.Effects.{places_of}
+use Rattle.begun_types.proofs.Wholes.{types_begin}
+use Rattle.begun_types.proofs.Signs.{AllFit, all_spelt, names_apart, starts}
+use Rattle.begun_types.proofs.Known.{Unfaulted, served, unfaulted}
 
 all_fit : {wanted : List Wanted} {ps : List Place} {ks : List Kind} → Reads generic wanted ps ks → AllFit ps ks
 all_fit done = tt

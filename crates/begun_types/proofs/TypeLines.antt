@@ -17,8 +17,8 @@ use Rattle.text_types.specs.Actions.{actions_at, capped, integer_of, opens_types
 use Rattle.text_types.specs.Items.{Aliases, acted, acted_both, items, joined, place_next, wrapped}
 use Rattle.text_types.specs.Aliases.{is_nothing}
 use Rattle.text_types.specs.Marks.{arrow_next, closed, first_or_false, marked, marked_at, without_first}
-use Rattle.read_terms.specs.Begun.{AreBegun, BegunAt, are_types, is_refused}
-use Rattle.read_terms.proofs.Effects.{Arrowed, Calm, Cut, Ended, ListOn, More, OneTerm, Results, Several, Sizes, SomeOn, Spans, Takes, ahead, begun_more, calm_line, calm_more, cut, event, is_tame_line, it, means, one_in, quiet_join, quiet_word, shut_word, spans_at, spans_end, spans_part}
+use Rattle.begun_types.specs.Begun.{AreBegun, BegunAt, are_types, is_refused}
+use Rattle.begun_types.proofs.Effects.{Arrowed, Calm, Cut, Ended, ListOn, More, OneTerm, Results, Several, Sizes, SomeOn, Spans, Takes, ahead, begun_more, calm_line, calm_more, cut, event, is_tame_line, it, means, one_in, quiet_join, quiet_word, shut_word, spans_at, spans_end, spans_part}
 
 either : (ls ms : List TextLine) (line : TextLine) → Has line (ls ++ ms) → Has line ls ⊎ Has line ms
 either [] ms line has = inr has

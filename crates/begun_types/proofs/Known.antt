@@ -31,10 +31,10 @@ use Rattle.text_types.specs.Spelling.{Spelling}
 use Rattle.text_types.specs.Items.{Aliases, begins, first_of, items}
 use Rattle.text_types.specs.Aliases.{after, aliases_from, aliases_of, bound, defines, defines_new, is_nothing, is_start, piece}
 use Rattle.text_types.specs.Marks.{arrow_next, closed, closed_at, first_or_false, marked, marked_at}
-use Rattle.read_terms.specs.Begun.{AreBegun, AreServed, BegunAt, IsDefined, is_refused, uses_alias}
-use Rattle.read_terms.proofs.Effects.{event, places_of}
-use Rattle.read_terms.proofs.Wholes.{type_begins}
-use Rattle.read_terms.proofs.Signs.{AllFit, AreApart, names_type}
+use Rattle.begun_types.specs.Begun.{AreBegun, AreServed, BegunAt, IsDefined, is_refused, uses_alias}
+use Rattle.begun_types.proofs.Effects.{event, places_of}
+use Rattle.begun_types.proofs.Wholes.{type_begins}
+use Rattle.begun_types.proofs.Signs.{AllFit, AreApart, names_type}
 
 -- No operation or definition begins in a type
 

@@ -19,7 +19,7 @@ use Rattle.text_types.specs.Actions.{opens_types, results_of}
 use Rattle.text_types.specs.Items.{Aliases, acted, items, place_next}
 use Rattle.text_types.specs.Aliases.{is_nothing, piece}
 use Rattle.text_types.specs.Marks.{arrow_next, closed, closed_at, is_arrow, marked}
-use Rattle.read_terms.specs.Begun.{AreBegun, BegunAt, are_types, is_refused, uses_alias}
+use Rattle.begun_types.specs.Begun.{AreBegun, BegunAt, are_types, is_refused, uses_alias}
 
 abbrev pub event : Place → ℕ → Event
 event place name = record { place = place; name = name }

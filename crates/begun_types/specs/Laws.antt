@@ -19,7 +19,7 @@ use Rattle.text_grammar.specs.Text.{start}
 use Rattle.text_events.specs.declared.event.Event.{Event}
 use Rattle.text_types.specs.Spelling.{Spelling}
 use Rattle.text_types.specs.Items.{Aliases}
-use Rattle.read_terms.specs.Begun.{AreBegun, AreServed}
+use Rattle.begun_types.specs.Begun.{AreBegun, AreServed}
 
 abbrev pub TypesBegin : Type 0
 TypesBegin = (words : Spelling) (aliases : Aliases) (es : List Event) (kinds : List Kind) → Reads generic start (map (λ (e : Event). e.place) es) kinds → AreServed aliases es → AreBegun words aliases es

@@ -20,10 +20,10 @@ use Rattle.text_types.specs.Items.{Aliases, acted, first_of, items, joined}
 use Rattle.text_types.specs.Aliases.{is_nothing, is_start, piece}
 use Rattle.text_types.specs.Marks.{arrow_next, closed, first_or_false, marked, marked_at}
 use Rattle.text_forms.specs.Forms.{Run, run_end, run_more}
-use Rattle.read_terms.specs.Begun.{AreBegun, AreServed, IsDefined, IsFunction}
-use Rattle.read_terms.specs.Laws.{TypesBegin}
-use Rattle.read_terms.proofs.Effects.{Calm, More, OneTerm, Quiet, Results, Several, Spans, Sub, Takes, Whole, begun_more, calm_more, calm_refl, cut, event, is_tame_line, it, means, part_line, places_of, quiet_join, quiet_word, shut_word, spans_at, spans_end, spans_part, sub_of, tame_spans}
-use Rattle.read_terms.proofs.TypeLines.{after_inner_line, after_line, does, element_line, ended_line, inner_results_line, inner_type_line, inner_types_line, list_by, more_inner_line, more_line, results_line, sizes_line, stands_at, type_line, types_line}
+use Rattle.begun_types.specs.Begun.{AreBegun, AreServed, IsDefined, IsFunction}
+use Rattle.begun_types.specs.Laws.{TypesBegin}
+use Rattle.begun_types.proofs.Effects.{Calm, More, OneTerm, Quiet, Results, Several, Spans, Sub, Takes, Whole, begun_more, calm_more, calm_refl, cut, event, is_tame_line, it, means, part_line, places_of, quiet_join, quiet_word, shut_word, spans_at, spans_end, spans_part, sub_of, tame_spans}
+use Rattle.begun_types.proofs.TypeLines.{after_inner_line, after_line, does, element_line, ended_line, inner_results_line, inner_type_line, inner_types_line, list_by, more_inner_line, more_line, results_line, sizes_line, stands_at, type_line, types_line}
 
 -- parts whose lines are tame, and of which nothing more is asked
 abbrev is_calm_part : Part → Bool
