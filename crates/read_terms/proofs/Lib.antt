@@ -5,3 +5,5 @@ pub mod Steps
 pub mod Parts
 pub mod Spans
 pub mod WordFacts
+pub mod Known
+pub mod Runs
