@@ -7,3 +7,4 @@ pub mod Spans
 pub mod WordFacts
 pub mod Known
 pub mod Runs
+pub mod Readings

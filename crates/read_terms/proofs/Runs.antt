@@ -37,7 +37,7 @@ use Rattle.type_kinds.specs.Ranges.{Listed, is_minus, is_out, listed_at, number_
 use Rattle.read_terms.proofs.Terms.{is_integer}
 use Rattle.read_terms.proofs.Actions.{Sound, is_sized, is_wide}
 use Rattle.read_terms.proofs.Fits.{written_narrow, written_positive}
-use Rattle.read_terms.proofs.Steps.{State, Step, env_behind}
+use Rattle.read_terms.proofs.Steps.{Runs, State, Step, env_behind}
 use Rattle.read_terms.proofs.Known.{Defs, Extends, KnownOk, Pending, attr_new, defs_moved, extends_after, extends_from, integer_there, known_start, named_new, pend_moved, type_new}
 
 -- Nothing is found
@@ -238,11 +238,6 @@ module _ (words : Spelling) (bang hash : ℕ → Type 0) where
 
     -- All events
 
-    pub record Runs (ps : List Place) (x : State) : Type 0 where
-      pub last : State
-      pub run : Run (Step words final) ps x last
-      pub over : last.events ≡ []
-
     pub runs : (class : ℕ → Class) (ps : List Place) (ws : List Word) (ns : List ℕ) (own : ℕ) (b : Before) (listed : Listed) (env later : Aliases) (bt ba : List Turn) (body : Body)
         → length ws ≡ length ps → length ns ≡ length ps → b.sizes ≤ 8 → 0 < listed.width
         → Holds final b.aliases env later bt ba (marked (events_from own ps ns)) → AllSpelt (events_from own ps ns)
@@ -250,7 +245,7 @@ module _ (words : Spelling) (bang hash : ℕ → Type 0) where
         → first_in (pass_listed words) (is_out words final) listed (marked (events_from own ps ns)) ≡ None
         → first_at passed (again false) bt (turns (steps_of names.TypeAliases class body (events_from own ps ns)) (events_from own ps ns)) ≡ None
         → first_at passed (again false) ba (turns (steps_of names.AttrAliases class body (events_from own ps ns)) (events_from own ps ns)) ≡ None
-        → Runs ps (record { sizes = b.sizes; listed = listed; env = env; later = later; events = marked (events_from own ps ns) })
+        → Runs words final ps (record { sizes = b.sizes; listed = listed; env = env; later = later; events = marked (events_from own ps ns) })
     runs class [] ws ns own b listed env later bt ba body lw ln few wide o s f r t u = record { last = _; run = run_end _; over = refl }
     runs class (p ∷ ps) [] ns own b listed env later bt ba body lw ln few wide o s f r t u = absurd (omega (arith, lw))
     runs class (p ∷ ps) (w ∷ ws) [] own b listed env later bt ba body lw ln few wide o s f r t u = absurd (omega (arith, ln))
@@ -268,7 +263,7 @@ module _ (words : Spelling) (bang hash : ℕ → Type 0) where
         let not_attr : again false ba (attr_alias_step p, e) ≡ false = not_there (again false ba (attr_alias_step p, e)) (first_at passed (again false) ((attr_alias_step p, e) ∷ ba) (turns (steps_of names.AttrAliases class (behind class body e) es) es)) u in
         let next_listed : Listed = record { width = listed_at words p (if is_own p then own else n) listed.width; minus = is_minus p } in
         let passes : pass_listed words listed (here p x y own n) (marked es) ≡ next_listed = same_listed words p (if is_own p then own else n) listed.width x y in
-        let more : Runs ps (record { sizes = sizes_behind b.sizes p; listed = next_listed; env = if is_start p then later else env; later = after words later (here p x y own n) (marked es); events = marked es }) =
+        let more : Runs words final ps (record { sizes = sizes_behind b.sizes p; listed = next_listed; env = if is_start p then later else env; later = after words later (here p x y own n) (marked es); events = marked es }) =
         runs class ps ws ns (own + 1) (language.step b (p, record { word = w; name = n })) next_listed (if is_start p then later else env) (after words later (here p x y own n) (marked es)) ((type_alias_step p, e) ∷ bt) ((attr_alias_step p, e) ∷ ba) (behind class body e)
         (omega (arith, lw)) (omega (arith, ln)) (sizes_moved p b.sizes few) (width_moved p (if is_own p then own else n) listed.width s.0 wide)
         (holds_moved b.aliases env later bt ba p x y own n (marked es) s.0 not_type not_attr o) s.1

@@ -9,6 +9,7 @@ use Rattle.text_types.specs.Spelling.{Spelling}
 use Rattle.text_types.specs.Aliases.{after, is_start}
 use Rattle.text_types.specs.Items.{Aliases, items}
 use Rattle.text_types.specs.Marks.{marked_at}
+use Rattle.text_forms.specs.Forms.{Run}
 use Rattle.type_kinds.specs.Ranges.{Listed, is_minus, listed_at, number_width, out_at}
 use Rattle.read_terms.proofs.Terms.{fine, is_integer}
 use Rattle.read_terms.proofs.Actions.{Sound, all_fine}
@@ -52,6 +53,12 @@ module _ (words : Spelling) (final : Aliases) where
     pub integer : p ≡ places.ElementAlias → (is_integer (x.env name) ≡ true) × (final name ≡ x.env name)
     pub env_is : y.env ≡ env_behind p x
     pub later_is : y.later ≡ after words x.later (record { place = marked_at p arrow inner; name = name }) y.events
+
+  -- events one by one, to the end
+  pub record Runs (ps : List Place) (x : State) : Type 0 where
+    pub last : State
+    pub run : Run Step ps x last
+    pub over : last.events ≡ []
 
   abbrev pub event_of : (p : Place) (x y : State) → Step p x y → Event
   event_of p x y m = record { place = marked_at p m.arrow m.inner; name = m.name }
