@@ -8,3 +8,6 @@ pub mod WordFacts
 pub mod Known
 pub mod Runs
 pub mod Readings
+pub mod Signed
+pub mod Entries
+pub mod Attrs
