@@ -1,26 +1,25 @@
 -- The attribute of each term that is fine has formed types and numbers that fit.
-use Rattle.std.proofs.Common.{◌≡◌, ℕ, ◌+◌, ◌<◌, ◌&&◌, Bool, true, false, List, [], ◌∷◌, ◌++◌, map, refl, sym, ap, ◌∙◌, subst, arith, true≢false}
+use Rattle.std.proofs.Common.{◌≡◌, ℕ, ◌+◌, ◌<◌, ◌&&◌, Bool, true, false, List, [], ◌∷◌, ◌++◌, map, refl, ap, ◌∙◌, arith}
 use Rattle.std.specs.Prelude.{nat_lt, ℤ, not}
 use Rattle.std.specs.List.{filter, list_all}
 use Rattle.std.proofs.lemmas.Bool.Decides.{nat_tests}
 use Rattle.mlir_lex.proofs.Lengths.{and-both, and-left, and-right}
-use Rattle.tree_model.specs.declared.type_tree.TypeTree.{TypeTree}
 use Rattle.tree_model.specs.declared.attr_tree.AttrTree as attr
 use Rattle.plain_tree.specs.Types.{Int, PlainType, PlainTypes, more_types, end_of_types, plain_type, type_tree, type_trees}
 use Rattle.plain_tree.specs.Attrs.{attrs_in, dict_in, plain_attr, plain_entries}
-use Rattle.plain_tree.specs.Ops.{Kind, plain_values}
+use Rattle.plain_tree.specs.Ops.{plain_values}
 use Rattle.plain_tree.proofs.TypeOpens.{plain_again}
 use Rattle.plain_tree.proofs.AttrOpens.{plain_entry, plain-Unit, plain-Int, plain-Str, plain-List, plain-Dict, plain-OfType, plain-Symbol, plain-Ints, plain-Dialect}
 use Rattle.term_table.specs.declared.node.Form.TheVariants as forms
-use Rattle.term_table.specs.Terms.{Term, nothing, node}
+use Rattle.term_table.specs.Terms.{Term, node}
 use Rattle.text_types.specs.Plain.{type_of, types_of}
-use Rattle.rule_model.specs.Formed.{are_formed_types, are_formed_values, is_formed_type, is_number_of, is_signed}
+use Rattle.rule_model.specs.Formed.{are_formed_types, are_formed_values, is_formed_type, is_number_of}
 use Rattle.event_trees.specs.Wording.{Wording}
 use Rattle.event_trees.specs.Dictionaries.{Entry, attrs_of, belongs, props_of, sorted}
 use Rattle.event_trees.specs.Attrs.{attr_of, bits_of, entries_of, integer_type, items_of, minus_of, negative, signed, truth, written_of}
 use Rattle.event_trees.specs.Levels.{numbered, result_types}
 use Rattle.read_terms.specs.Fitting.{are_fit_attrs, are_fit_entries, is_fit_attr, is_fit_dict, is_fit_here}
-use Rattle.read_terms.proofs.Terms.{all_formed, bits_in, fine, is_fit_minus, is_number_type, type_formed}
+use Rattle.read_terms.proofs.Terms.{all_formed, fine, is_fit_minus, is_number_type, type_formed}
 use Rattle.read_terms.proofs.Signed.{array_fits, minus_fits, number_fits}
 use Rattle.read_terms.proofs.Entries.{all_joined, all_kept, all_sorted}
 

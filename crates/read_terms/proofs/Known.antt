@@ -1,11 +1,9 @@
 -- Aliases that stand for integer types, from the begin of a text on.
-use Rattle.std.proofs.Common.{◌≡◌, ◌⊎◌, inl, inr, ℕ, zero, suc, ◌==◌, Bool, true, false, List, [], ◌∷◌, length, Option, Some, None, refl, sym, ap, ◌∙◌, subst, arith, true≢false}
+use Rattle.std.proofs.Common.{◌≡◌, ◌⊎◌, inl, inr, ℕ, zero, ◌==◌, Bool, true, false, List, [], ◌∷◌, length, Option, Some, None, refl, sym, ap, ◌∙◌, subst, true≢false}
 use Rattle.std.specs.Prelude.{is_some, ◌&&◌, if◌then◌else◌}
-use Rattle.std.proofs.lemmas.Bool.Decides.{nat_tests}
 use Rattle.mlir_lex.proofs.Lengths.{and-left, and-right, eqb-is, eqb-refl}
 use Rattle.text_grammar.specs.declared.places.Place.{Place}
 use Rattle.text_grammar.specs.declared.places.Place.TheVariants as places
-use Rattle.term_table.specs.declared.node.Form.TheVariants as forms
 use Rattle.term_table.specs.Terms.{Term, nothing, node}
 use Rattle.text_events.specs.declared.alias.AliasClass.{AliasClass}
 use Rattle.text_events.specs.declared.alias.AliasClass.TheVariants.{Integer, Other, Location}

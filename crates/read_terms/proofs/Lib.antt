@@ -11,3 +11,6 @@ pub mod Readings
 pub mod Signed
 pub mod Entries
 pub mod Attrs
+pub mod Trees
+pub mod Modules
+pub mod Texts

@@ -1,35 +1,22 @@
 -- What is read of the parts of the grammar: each word and each part keeps terms fine.
-use Rattle.std.proofs.Common.{◌≡◌, ◌⊎◌, inl, inr, ℕ, suc, ◌+◌, ◌-◌, ◌^◌, ◌<◌, ◌≤◌, Bool, true, false, List, [], ◌∷◌, ◌++◌, length, take, drop, Option, Some, None, refl, sym, ap, ◌∙◌, subst, arith, true≢false}
-use Rattle.std.specs.Prelude.{◌&&◌, nat_lt, nat_le, if◌then◌else◌}
-use Rattle.std.specs.List.{list_all}
+use Rattle.std.proofs.Common.{◌≡◌, ℕ, ◌+◌, ◌<◌, ◌≤◌, Bool, true, false, List, [], ◌∷◌, length, Option, Some, None, refl, sym, ap, ◌∙◌, subst, arith, true≢false}
+use Rattle.std.specs.Prelude.{nat_lt, nat_le, if◌then◌else◌}
 use Rattle.std.proofs.lemmas.Bool.Decides.{nat_tests}
-use Rattle.mlir_lex.proofs.Lengths.{and-both, and-left, and-right}
-use Rattle.line_grammar.specs.declared.Symbol.TheVariants as symbols
-use Rattle.line_grammar.specs.Grammar.{Has, here, later, Reads, done, takes, opens, leaves}
-use Rattle.line_grammar.specs.Conditions.{both, all_in}
-use Rattle.text_grammar.specs.declared.kinds.Kind.{Kind}
+use Rattle.mlir_lex.proofs.Lengths.{and-both}
 use Rattle.text_grammar.specs.declared.places.Place.{Place}
 use Rattle.text_grammar.specs.declared.places.Place.TheVariants as places
-use Rattle.text_grammar.specs.declared.parts.Part.{Part}
-use Rattle.text_grammar.specs.declared.parts.Part.TheVariants as parts
-use Rattle.text_grammar.specs.Table.{TextLine, Wanted, at, some, empty_at, generic, lines_of}
 use Rattle.term_table.specs.declared.node.Form.TheVariants as forms
 use Rattle.term_table.specs.Terms.{Term, nothing, node}
 use Rattle.text_events.specs.declared.event.Event.{Event}
-use Rattle.text_events.specs.Language.{if_ninth, refused_at, sizes_behind}
-use Rattle.text_types.specs.declared.action.Actions.{Actions}
 use Rattle.text_types.specs.Spelling.{Spelling}
 use Rattle.text_types.specs.Plain.{sizes_of}
-use Rattle.text_types.specs.Actions.{actions_at, capped, integer_of, number_of, size_of, width_of}
-use Rattle.text_types.specs.Aliases.{is_start}
-use Rattle.text_types.specs.Items.{Aliases, acted, acted_both, items, joined, place_next, wrapped}
+use Rattle.text_types.specs.Actions.{integer_of, number_of, size_of, width_of}
+use Rattle.text_types.specs.Items.{Aliases, acted, joined, place_next, wrapped}
 use Rattle.text_types.specs.Marks.{marked_at}
-use Rattle.text_forms.specs.Forms.{Run, run_end, run_more}
-use Rattle.type_kinds.specs.Ranges.{Listed, is_colon, is_long_size, next_width, number_width, term_width, unfits, unfits_some, written_width}
-use Rattle.read_terms.proofs.Terms.{are_listed, bits_in, fine, integer_fine, is_integer, is_number_type, is_tail, is_width}
-use Rattle.read_terms.proofs.Actions.{Sound, all_fine, boring_fine, first_fine, is_boring, is_sized, is_wide, rest_fine}
-use Rattle.read_terms.proofs.Fits.{bits_positive, fits, fits_minus, is_typed, not_ninth, one_size, size_below, term_narrow, written_narrow, written_positive}
-use Rattle.read_terms.proofs.Steps.{EnvFine, FineAt, State, Step, env_behind, event_of}
+use Rattle.type_kinds.specs.Ranges.{is_colon, is_long_size, next_width, number_width, unfits, unfits_some, written_width}
+use Rattle.read_terms.proofs.Terms.{are_listed, bits_in, integer_fine, is_integer, is_tail, is_width}
+use Rattle.read_terms.proofs.Actions.{Sound, all_fine, is_boring, is_sized, is_wide, rest_fine}
+use Rattle.read_terms.proofs.Fits.{bits_positive, fits, fits_minus, is_typed, size_below, written_narrow}
 
 -- Terms that stand first
 

@@ -1,5 +1,5 @@
 -- What aliases stand for in a text that is read is fine, and so are the types and attributes of its operations.
-use Rattle.std.proofs.Common.{◌≡◌, ℕ, ◌==◌, Bool, true, false, List, [], ◌∷◌, Option, Some, None, refl, sym, ap, ◌∙◌, subst, true≢false}
+use Rattle.std.proofs.Common.{◌≡◌, ℕ, ◌==◌, Bool, true, false, List, [], ◌∷◌, Some, None, refl, sym, ap, ◌∙◌, subst, true≢false}
 use Rattle.std.specs.Prelude.{◌&&◌, if◌then◌else◌}
 use Rattle.line_grammar.specs.Grammar.{Reads}
 use Rattle.text_grammar.specs.declared.kinds.Kind.{Kind}
@@ -7,18 +7,17 @@ use Rattle.text_grammar.specs.declared.places.Place.{Place}
 use Rattle.text_grammar.specs.declared.places.Place.TheVariants as places
 use Rattle.text_grammar.specs.Table.{generic}
 use Rattle.text_grammar.specs.Text.{start}
-use Rattle.term_table.specs.Terms.{Term, nothing}
+use Rattle.term_table.specs.Terms.{Term}
 use Rattle.text_events.specs.declared.event.Event.{Event}
 use Rattle.text_types.specs.Spelling.{Spelling}
 use Rattle.text_types.specs.Aliases.{after, aliases_from, bound, defines, defines_new, is_nothing, is_start, piece}
 use Rattle.text_types.specs.Items.{Aliases, begins, first_of, items}
 use Rattle.text_types.specs.Marks.{marked_at}
-use Rattle.text_forms.specs.Forms.{Run}
 use Rattle.type_kinds.specs.Ranges.{is_colon, next_width, number_width, width_at}
 use Rattle.read_terms.proofs.Terms.{fine, is_integer}
 use Rattle.read_terms.proofs.Actions.{all_fine, first_fine}
-use Rattle.read_terms.proofs.Steps.{EnvFine, FineAt, Runs, State, Step, env_behind, event_of}
-use Rattle.read_terms.proofs.Parts.{IntegerFirst, colon_next}
+use Rattle.read_terms.proofs.Steps.{EnvFine, FineAt, Runs, State, Step, event_of}
+use Rattle.read_terms.proofs.Parts.{colon_next}
 use Rattle.read_terms.proofs.Spans.{Ready, all_read, is_telling}
 
 -- Marked places

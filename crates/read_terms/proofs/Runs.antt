@@ -1,12 +1,11 @@
 -- All events of a text that is refused for nothing, one by one.
-use Rattle.std.proofs.Common.{◌≡◌, ◌⊎◌, inl, inr, ℕ, zero, suc, ◌+◌, ◌<◌, ◌≤◌, ◌^◌, ◌==◌, Bool, true, false, List, [], ◌∷◌, map, length, Option, Some, None, refl, sym, ap, ◌∙◌, subst, arith, true≢false}
-use Rattle.std.specs.Prelude.{◌&&◌, is_some, nat_le, nat_lt, if◌then◌else◌}
+use Rattle.std.proofs.Common.{◌≡◌, ℕ, ◌+◌, ◌<◌, ◌≤◌, ◌^◌, Bool, true, false, List, [], ◌∷◌, length, Option, Some, None, refl, sym, ap, ◌∙◌, subst, arith}
+use Rattle.std.specs.Prelude.{◌&&◌, nat_le, nat_lt, if◌then◌else◌}
 use Rattle.std.proofs.lemmas.Bool.Decides.{nat_tests}
 use Rattle.line_grammar.specs.Language.{events, first_at, one_later}
 use Rattle.text_grammar.specs.declared.places.Place.{Place}
 use Rattle.text_grammar.specs.declared.places.Place.TheVariants as places
 use Rattle.text_grammar.specs.declared.words.Word.{Word}
-use Rattle.term_table.specs.Terms.{Term}
 use Rattle.text_events.specs.declared.alias.AliasClass.{AliasClass}
 use Rattle.text_events.specs.declared.alias.AliasClass.TheVariants.{Integer, Other, Location}
 use Rattle.text_events.specs.declared.ending.EndKind.{EndKind}
@@ -16,7 +15,6 @@ use Rattle.text_events.specs.Aliases as text
 use Rattle.text_events.specs.Aliases.{alias_fault, aliases_behind, class_of, known_behind, no_integer}
 use Rattle.text_events.specs.Language as language
 use Rattle.text_events.specs.Language.{Before, Named, ends_at, first_some, long_at, named, refused_at, sizes_behind}
-use Rattle.text_events.specs.Looking as looking
 use Rattle.text_events.specs.Looking.{first_refusal, here_or_later}
 use Rattle.text_events.specs.Source.{events_from, is_own}
 use Rattle.text_types.specs.Spelling.{Spelling}
@@ -25,19 +23,17 @@ use Rattle.text_types.specs.Items.{Aliases, begins}
 use Rattle.text_types.specs.Marks.{arrow_next, closed, first_or_false, marked, marked_at}
 use Rattle.text_scopes.specs.declared.bodies.Body.{Body}
 use Rattle.text_scopes.specs.declared.bodies.Class.{Class}
-use Rattle.text_scopes.specs.declared.steps.Step as step
-use Rattle.text_scopes.specs.declared.steps.Step.TheVariants as steps
 use Rattle.text_scopes.specs.declared.tables.Names.TheVariants as names
 use Rattle.text_scopes.specs.Bodies.{behind}
 use Rattle.text_scopes.specs.Seen.{Turn, again, passed, turns}
 use Rattle.text_scopes.specs.Tables.{attr_alias_step, steps_of, type_alias_step}
-use Rattle.text_forms.specs.Forms.{Run, run_end, run_more}
+use Rattle.text_forms.specs.Forms.{run_end, run_more}
 use Rattle.type_kinds.specs.First.{first_in}
 use Rattle.type_kinds.specs.Ranges.{Listed, is_minus, is_out, listed_at, number_width, out_at, pass_listed, written_width}
 use Rattle.read_terms.proofs.Terms.{is_integer}
 use Rattle.read_terms.proofs.Actions.{Sound, is_sized, is_wide}
-use Rattle.read_terms.proofs.Fits.{written_narrow, written_positive}
-use Rattle.read_terms.proofs.Steps.{Runs, State, Step, env_behind}
+use Rattle.read_terms.proofs.Fits.{written_positive}
+use Rattle.read_terms.proofs.Steps.{Runs}
 use Rattle.read_terms.proofs.Known.{Defs, Extends, KnownOk, Pending, attr_new, defs_moved, extends_after, extends_from, integer_there, known_start, named_new, pend_moved, type_new}
 
 -- Nothing is found

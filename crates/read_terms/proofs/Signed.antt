@@ -1,5 +1,5 @@
 -- Numbers that fit, as signed numbers.
-use Rattle.std.proofs.Common.{◌≡◌, ℕ, zero, suc, ◌+◌, ◌-◌, ◌*◌, ◌^◌, ◌<◌, ◌≤◌, Bool, true, false, cond, List, [], ◌∷◌, refl, sym, ap, ◌∙◌, subst, arith, true≢false}
+use Rattle.std.proofs.Common.{◌≡◌, ℕ, zero, suc, ◌+◌, ◌-◌, ◌*◌, ◌^◌, ◌<◌, ◌≤◌, Bool, true, false, cond, refl, sym, subst, arith, true≢false}
 use Rattle.std.specs.Prelude.{◌&&◌, nat_lt, nat_le, ℤ, pos, negsuc, ◌-ℤ◌, if◌then◌else◌}
 use Rattle.std.specs.List.{list_all}
 use Rattle.std.proofs.Math.Nat.{two-pow-succ}
@@ -11,7 +11,7 @@ use Rattle.term_table.specs.Terms.{Term, nothing, node}
 use Rattle.rule_model.specs.Formed.{is_formed_type, is_number_of, is_signed}
 use Rattle.event_trees.specs.Wording.{Wording}
 use Rattle.event_trees.specs.Attrs.{bits_of, integer_type, negative, numbers_of, signed}
-use Rattle.read_terms.proofs.Terms.{are_listed, bits_in, is_integer, is_number_type, is_width}
+use Rattle.read_terms.proofs.Terms.{are_listed, bits_in, is_number_type, is_width}
 
 -- between minus a half and a half of this
 abbrev fits_in : ℕ → ℤ → Bool

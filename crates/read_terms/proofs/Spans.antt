@@ -1,7 +1,5 @@
 -- What the grammar reads keeps terms fine.
-use Rattle.std.proofs.Common.{◌≡◌, ◌⊎◌, inl, inr, ℕ, ◌+◌, ◌<◌, ◌≤◌, Bool, true, false, List, [], ◌∷◌, ◌++◌, take, drop, Option, Some, None, refl, sym, ap, ◌∙◌, subst, true≢false, arith}
-use Rattle.std.proofs.lemmas.Bool.Decides.{nat_tests}
-use Rattle.std.specs.Prelude.{nat_lt, if◌then◌else◌}
+use Rattle.std.proofs.Common.{◌≡◌, ◌⊎◌, inl, inr, ℕ, ◌<◌, ◌≤◌, Bool, true, false, List, [], ◌∷◌, ◌++◌, take, drop, Option, Some, None, refl, sym, ap, ◌∙◌, subst, true≢false}
 use Rattle.line_grammar.specs.declared.Symbol.TheVariants as symbols
 use Rattle.line_grammar.specs.Grammar.{Has, here, later, Reads, done, takes, opens, leaves}
 use Rattle.line_grammar.specs.Conditions.{both, all_in}
@@ -14,15 +12,15 @@ use Rattle.text_grammar.specs.Table.{TextLine, Wanted, at, some, empty_at, gener
 use Rattle.term_table.specs.Terms.{Term}
 use Rattle.text_events.specs.declared.event.Event.{Event}
 use Rattle.text_types.specs.Spelling.{Spelling}
-use Rattle.text_types.specs.Actions.{actions_at, integer_of, number_of, size_of}
+use Rattle.text_types.specs.Actions.{actions_at}
 use Rattle.text_types.specs.Aliases.{is_start}
 use Rattle.text_types.specs.Items.{Aliases, acted, acted_both, items, place_next}
 use Rattle.text_types.specs.Marks.{marked_at}
 use Rattle.text_forms.specs.Forms.{Run, run_end, run_more}
-use Rattle.type_kinds.specs.Ranges.{Listed, is_colon, next_width, number_width, term_width, unfits, unfits_some, written_width}
+use Rattle.type_kinds.specs.Ranges.{Listed, next_width, number_width, term_width, unfits, unfits_some, written_width}
 use Rattle.read_terms.proofs.Terms.{bits_in, is_integer}
-use Rattle.read_terms.proofs.Actions.{all_fine, boring_fine, is_boring, is_sized}
-use Rattle.read_terms.proofs.Fits.{not_ninth, one_size, term_narrow, written_positive}
+use Rattle.read_terms.proofs.Actions.{all_fine, boring_fine, is_boring}
+use Rattle.read_terms.proofs.Fits.{not_ninth, one_size, term_narrow}
 use Rattle.read_terms.proofs.Steps.{EnvFine, FineAt, State, Step, event_of}
 use Rattle.read_terms.proofs.Parts.{IntegerFirst, ListFirst, TailFirst, array_made, boring_marked, colon_next, element_tail, element_word, integer_all, listed_more, memref_made, minus_listed, minus_made, number_made, quiet_boring, size_more, sound_marked}
 
@@ -239,7 +237,7 @@ module _ (words : Spelling) (final : Aliases) (evs : State → List Event) (env 
       let less : x.sizes < 8 = not_ninth x.sizes m.allowed in
       record {
         first = λ s. subst (TailFirst words.number x.sizes) (sym (its_moved places.DimensionSize x y m refl))
-        (size_more words.number (words.size m.name) (env x m.name) x.sizes y.sizes (its y) m.inside less (one_size x.sizes y.sizes less m.sizes_is) (t.first (sure places.DimensionSize x y m refl s)));
+            (size_more words.number (words.size m.name) (env x m.name) x.sizes y.sizes (its y) m.inside less (one_size x.sizes y.sizes less m.sizes_is) (t.first (sure places.DimensionSize x y m refl s)));
         told = untold places.DimensionSize x y refl m t.told;
       }
 
@@ -252,8 +250,8 @@ module _ (words : Spelling) (final : Aliases) (evs : State → List Event) (env 
   word_integer x y m r = record {
     few = m.few;
     first = λ s. subst (λ w. IntegerFirst words.number w (its x)) (sym (ap (next_width words final) (moved places.ElementWord x y m refl)))
-    (subst (IntegerFirst words.number (Some (written_width (words.width m.name)))) (sym (its_moved places.ElementWord x y m refl))
-    (element_word words.number (words.width m.name) (env x m.name) (its y) m.sound (r.fine (sure places.ElementWord x y m refl s))));
+        (subst (IntegerFirst words.number (Some (written_width (words.width m.name)))) (sym (its_moved places.ElementWord x y m refl))
+        (element_word words.number (words.width m.name) (env x m.name) (its y) m.sound (r.fine (sure places.ElementWord x y m refl s))));
     told = untold places.ElementWord x y refl m r.told;
   }
 
@@ -293,7 +291,7 @@ module _ (words : Spelling) (final : Aliases) (evs : State → List Event) (env 
       let t : Tail a = tail_kept places.MemrefLess a b less refl refl (its_moved places.MemrefLess a b less refl) less.sizes_is (d (integer_tail c (of c e el (ends (boring_spans more h s r))))) in
       record {
         fine = λ s. subst (all_fine words.number) (sym (its_moved places.MemrefWord x a m refl))
-        (memref_made words.number (its a) (subst (λ (n : ℕ). TailFirst words.number n (its a)) m.sizes_is (t.first (sure places.MemrefWord x a m refl s))));
+            (memref_made words.number (its a) (subst (λ (n : ℕ). TailFirst words.number n (its a)) m.sizes_is (t.first (sure places.MemrefWord x a m refl s))));
         colon = λ s c. absurd (true≢false (sym c ∙ ap colon_next (moved places.MemrefWord x a m refl)));
         told = untold places.MemrefWord x a refl m t.told;
       }
@@ -321,7 +319,7 @@ module _ (words : Spelling) (final : Aliases) (evs : State → List Event) (env 
       let t : Ready a = n (boring_spans more h s r) in
       record {
         fine = λ u. subst (all_fine words.number) (sym (its_moved places.IntegerNumber x a m refl))
-        (number_made words final m.name x.listed.minus (env x m.name) (evs a) (its a) (unfit_here x a m) (t.fine (sure places.IntegerNumber x a m refl u)) (t.colon (sure places.IntegerNumber x a m refl u)));
+            (number_made words final m.name x.listed.minus (env x m.name) (evs a) (its a) (unfit_here x a m) (t.fine (sure places.IntegerNumber x a m refl u)) (t.colon (sure places.IntegerNumber x a m refl u)));
         colon = λ u c. absurd (true≢false (sym c ∙ ap colon_next (moved places.IntegerNumber x a m refl)));
         told = untold places.IntegerNumber x a refl m t.told;
       }
@@ -333,7 +331,7 @@ module _ (words : Spelling) (final : Aliases) (evs : State → List Event) (env 
       let unfit : unfits_some (width_here b) true (words.number k.name) ≡ false = sym (ap (λ c. unfits_some (width_here b) c (words.number k.name)) minus) ∙ unfit_here a b k in
       record {
         fine = λ u. subst (all_fine words.number) (sym (its_moved places.IntegerMinus x a m refl ∙ ap (λ ts. acted (env x m.name) (Rattle.text_types.specs.declared.action.Action.TheVariants.Wrap Rattle.term_table.specs.declared.node.Form.TheVariants.Minus 0) ts) (its_moved places.IntegerNumber a b k refl)))
-        (minus_made words final k.name (env a k.name) (evs b) (its b) unfit (t.fine (sure places.IntegerNumber a b k refl (sure places.IntegerMinus x a m refl u))) (t.colon (sure places.IntegerNumber a b k refl (sure places.IntegerMinus x a m refl u))));
+            (minus_made words final k.name (env a k.name) (evs b) (its b) unfit (t.fine (sure places.IntegerNumber a b k refl (sure places.IntegerMinus x a m refl u))) (t.colon (sure places.IntegerNumber a b k refl (sure places.IntegerMinus x a m refl u))));
         colon = λ u c. absurd (true≢false (sym c ∙ ap colon_next (moved places.IntegerMinus x a m refl)));
         told = untold places.IntegerMinus x a refl m (untold places.IntegerNumber a b refl k t.told);
       }
@@ -353,7 +351,7 @@ module _ (words : Spelling) (final : Aliases) (evs : State → List Event) (env 
         same = w;
         goes = λ t. record {
           first = λ s. subst (ListFirst words.number x.listed.width) (sym (its_moved places.ListedNumber x y m refl))
-          (listed_more words.number m.name x.listed.width x.listed.minus (its y) m.wide m.inside (subst (λ (n : ℕ). ListFirst words.number n (its y)) w (t.first (sure places.ListedNumber x y m refl s))));
+              (listed_more words.number m.name x.listed.width x.listed.minus (its y) m.wide m.inside (subst (λ (n : ℕ). ListFirst words.number n (its y)) w (t.first (sure places.ListedNumber x y m refl s))));
           told = untold places.ListedNumber x y refl m t.told;
         };
       }
@@ -368,8 +366,8 @@ module _ (words : Spelling) (final : Aliases) (evs : State → List Event) (env 
         same = v ∙ w;
         goes = λ t. record {
           first = λ s. subst (λ (n : ℕ). ListFirst words.number n (its x)) w
-          (subst (ListFirst words.number a.listed.width) (sym (its_moved places.ListedMinus x a m refl ∙ ap (λ ts. acted (env x m.name) (Rattle.text_types.specs.declared.action.Action.TheVariants.Wrap Rattle.term_table.specs.declared.node.Form.TheVariants.ListedMinus 0) ts) (its_moved places.ListedNumber a y k refl)))
-          (minus_listed words.number k.name a.listed.width (its y) unfit (subst (λ (n : ℕ). ListFirst words.number n (its y)) v (t.first (sure places.ListedNumber a y k refl (sure places.ListedMinus x a m refl s))))));
+              (subst (ListFirst words.number a.listed.width) (sym (its_moved places.ListedMinus x a m refl ∙ ap (λ ts. acted (env x m.name) (Rattle.text_types.specs.declared.action.Action.TheVariants.Wrap Rattle.term_table.specs.declared.node.Form.TheVariants.ListedMinus 0) ts) (its_moved places.ListedNumber a y k refl)))
+              (minus_listed words.number k.name a.listed.width (its y) unfit (subst (λ (n : ℕ). ListFirst words.number n (its y)) v (t.first (sure places.ListedNumber a y k refl (sure places.ListedMinus x a m refl s))))));
           told = untold places.ListedMinus x a refl m (untold places.ListedNumber a y refl k t.told);
         };
       }
@@ -406,7 +404,7 @@ module _ (words : Spelling) (final : Aliases) (evs : State → List Event) (env 
       let w : c.listed.width ≡ written_width (words.width k.name) = ap (λ (l : Listed). l.width) k.listed_is in
       let wide : Ready b = record {
         fine = λ s. subst (all_fine words.number) (sym (its_moved places.NumbersWidth b c k refl))
-        (array_made words.number (words.width k.name) (its c) k.sound (subst (λ (n : ℕ). ListFirst words.number n (its c)) w (list.first (sure places.NumbersWidth b c k refl s))));
+            (array_made words.number (words.width k.name) (its c) k.sound (subst (λ (n : ℕ). ListFirst words.number n (its c)) w (list.first (sure places.NumbersWidth b c k refl s))));
         colon = λ s c. absurd (true≢false (sym c ∙ ap colon_next (moved places.NumbersWidth b _ k refl)));
         told = untold places.NumbersWidth b c refl k list.told;
       } in

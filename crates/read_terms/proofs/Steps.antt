@@ -1,5 +1,5 @@
 -- A state of reading types and attributes: what is known before the events that are left. It goes over to another by an event.
-use Rattle.std.proofs.Common.{◌≡◌, ℕ, ◌<◌, ◌≤◌, Bool, true, false, List, [], ◌∷◌, Option, Some, None}
+use Rattle.std.proofs.Common.{◌≡◌, ℕ, ◌<◌, ◌≤◌, Bool, true, false, List, [], ◌∷◌, None}
 use Rattle.std.specs.Prelude.{if◌then◌else◌}
 use Rattle.text_grammar.specs.declared.places.Place.{Place}
 use Rattle.text_grammar.specs.declared.places.Place.TheVariants as places

@@ -1,12 +1,10 @@
 -- Terms of which each type is formed, and each number is one of its type.
-use Rattle.std.proofs.Common.{◌≡◌, ℕ, ◌+◌, ◌-◌, ◌^◌, Bool, true, false, List, [], ◌∷◌, length, refl, true≢false, sym}
+use Rattle.std.proofs.Common.{◌≡◌, ℕ, ◌-◌, ◌^◌, Bool, true, false, length, refl, true≢false, sym}
 use Rattle.std.specs.Prelude.{◌&&◌, nat_lt, nat_le}
 use Rattle.std.specs.List.{list_all}
 use Rattle.mlir_lex.proofs.Lengths.{and-both, and-left, and-right}
-use Rattle.plain_tree.specs.Types.{Int}
 use Rattle.rule_model.specs.Forms.{is_number}
 use Rattle.rule_model.specs.Formed.{are_formed_types, is_dim, is_formed_type}
-use Rattle.term_table.specs.declared.node.Form.{Form}
 use Rattle.term_table.specs.declared.node.Form.TheVariants as forms
 use Rattle.term_table.specs.Terms.{Term, nothing, node}
 use Rattle.text_types.specs.Plain.{sizes_of, type_of, types_of}

@@ -1,6 +1,6 @@
 -- What the words of a text spell, by their kinds.
-use Rattle.std.proofs.Common.{◌≡◌, ◌⊎◌, inl, inr, ℕ, zero, suc, ◌+◌, ◌-◌, ◌*◌, ◌%◌, ◌^◌, ◌==◌, ◌<◌, ◌≤◌, ◌&&◌, ◌||◌, Bool, true, false, List, [], ◌∷◌, ◌++◌, length, take, drop, Option, Some, None, refl, sym, ap, ◌∙◌, subst, arith, true≢false}
-use Rattle.std.specs.Prelude.{nat_lt, nat_le, codes, slice_get, IsTrue, if◌then◌else◌}
+use Rattle.std.proofs.Common.{◌≡◌, ◌⊎◌, inl, inr, ℕ, ◌+◌, ◌-◌, ◌*◌, ◌%◌, ◌^◌, ◌==◌, ◌<◌, ◌≤◌, ◌&&◌, ◌||◌, Bool, true, false, List, [], ◌∷◌, ◌++◌, length, take, drop, Option, Some, None, refl, sym, ap, ◌∙◌, subst, arith, true≢false}
+use Rattle.std.specs.Prelude.{nat_le, codes, slice_get, if◌then◌else◌}
 use Rattle.std.specs.Str.{bytes_eq}
 use Rattle.std.proofs.Math.Nat.{mod-eq_of_lt}
 use Rattle.std.proofs.Math.Seq.{drop-append_seam, take-append_seam}
@@ -15,7 +15,7 @@ use Rattle.mlir_lex.specs.declared.TokenKind.{TokenKind}
 use Rattle.mlir_lex.specs.declared.TokenKind.TheVariants as token
 use Rattle.mlir_lex.specs.Tokens.{IsName, IsToken}
 use Rattle.mlir_lex.specs.Text.{BeginsWith}
-use Rattle.mlir_lex.proofs.Lengths.{and-both, and-left, and-right, or-cases}
+use Rattle.mlir_lex.proofs.Lengths.{and-left, and-right, or-cases}
 use Rattle.text_grammar.specs.declared.kinds.Kind.{Kind}
 use Rattle.text_grammar.specs.declared.kinds.Kind.TheVariants as kinds
 use Rattle.text_grammar.specs.declared.words.Word.{Word}
@@ -76,16 +76,18 @@ has_word text mode place w h =
     let start : w.start ≡ place + t.start = ap (λ (v : Word). v.start) is ∙ word_start mode t.kind bytes (place + t.start) in
     let end : w.end ≡ place + t.start + cut_len mode t.kind bytes = ap (λ (v : Word). v.end) is ∙ word_end mode t.kind bytes (place + t.start) in
     let n : w.end - w.start ≡ cut_len mode t.kind bytes = omega (arith, start, end) in
-    let rest : drop w.start text ≡ bytes ++ h.behind = ap (λ m. drop m text) start ∙ sym (drop-drop t.start place text) ∙ token_rest (drop place text) t h.behind h.begins in
-    (record {
-      mode = mode;
-      form = t.kind;
-      bytes = bytes;
-      behind = h.behind;
-      is_token = h.begins.longest.is;
-      kind_is = ap (λ (v : Word). v.kind) is ∙ word_kind mode t.kind bytes (place + t.start);
-      piece_is = ap (λ m. take m (drop w.start text)) n ∙ ap (take (cut_len mode t.kind bytes)) rest;
-    }, omega (arith, end))
+    let rest : drop w.start text ≡ bytes ++ h.behind = ap (λ m. drop m text) start ∙ sym (drop-drop t.start place text) ∙ token_rest (drop place text) t h.behind h.begins in (
+      record {
+        mode = mode;
+        form = t.kind;
+        bytes = bytes;
+        behind = h.behind;
+        is_token = h.begins.longest.is;
+        kind_is = ap (λ (v : Word). v.kind) is ∙ word_kind mode t.kind bytes (place + t.start);
+        piece_is = ap (λ m. take m (drop w.start text)) n ∙ ap (take (cut_len mode t.kind bytes)) rest;
+      },
+      omega (arith, end),
+    )
 
 cut_from : (text : List ℕ) (ws : List Word) (mode : Mode) (place : ℕ) (fault : Option LexFault) → WordsFrom mode place (drop place text) ws fault → AllCut text ws
 unfolding WordsFrom
@@ -173,12 +175,12 @@ whole_word text w test h k t c = by_part (part_len c.mode c.form c.bytes == 0) r
 
 -- Widths
 
-abbrev is_integer_word : Kind → Bool
+abbrev pub is_integer_word : Kind → Bool
 is_integer_word kinds.WordWidth = true
 is_integer_word kinds.WordInteger = true
 is_integer_word _ = false
 
-abbrev is_width_word : Kind → Bool
+abbrev pub is_width_word : Kind → Bool
 is_width_word kinds.WordWidth = true
 is_width_word _ = false
 
@@ -386,11 +388,11 @@ abbrev pub starts : ℕ → List ℕ → Bool
 starts b [] = false
 starts b (c ∷ cs) = c == b
 
-abbrev is_type_name : Kind → Bool
+abbrev pub is_type_name : Kind → Bool
 is_type_name kinds.TypeName = true
 is_type_name _ = false
 
-abbrev is_hash_name : Kind → Bool
+abbrev pub is_hash_name : Kind → Bool
 is_hash_name kinds.HashName = true
 is_hash_name kinds.HashNumber = true
 is_hash_name _ = false

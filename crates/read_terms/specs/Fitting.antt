@@ -1,5 +1,5 @@
 -- Modules of which each type is formed, and each number is one of its type.
-use Rattle.std.specs.Prelude.{◌≡◌, ◌&&◌, Bool, true, List, [], ◌∷◌}
+use Rattle.std.specs.Prelude.{◌&&◌, Bool, true, [], ◌∷◌}
 use Rattle.std.specs.List.{list_all}
 use Rattle.plain_tree.specs.Attrs.{Entries, PlainAttr, PlainAttrs, PlainDict, Number, Attrs, Dict, OfType, Numbers, end_of_attrs, more_attrs, end_of_entries, more_entries}
 use Rattle.plain_tree.specs.Ops.{Kind, PlainModule, Values}

@@ -1,12 +1,8 @@
-//! Types, attributes and names of operations that are read.
+//! Types and attributes that are read: types are formed, and numbers fit their types.
 //!
 //! A crate of laws.
 #![tactic(auto)]
 
-ghost use Rattle.read_terms.specs.Fitting.{is_fit_module};
-ghost use Rattle.std.specs.Prelude.{◌≡◌};
+mod laws;
 
-/// Scratch.
-pub fn scratch()
-    ensures { is_fit_module ≡ is_fit_module }
-{}
+pub use laws::law_read_is_fit;
