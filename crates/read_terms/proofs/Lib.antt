@@ -14,3 +14,6 @@ pub mod Attrs
 pub mod Trees
 pub mod Modules
 pub mod Texts
+pub mod Named
+pub mod Deep
+pub mod NamedTexts

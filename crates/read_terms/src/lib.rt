@@ -5,4 +5,4 @@
 
 mod laws;
 
-pub use laws::law_read_is_fit;
+pub use laws::{law_read_is_fit, law_read_is_named};
