@@ -3,6 +3,7 @@ use Rattle.std.specs.Prelude.{◌&&◌, Bool, true}
 use Rattle.plain_tree.specs.Ops.{Kind, Op, op, Ops, end_of_ops, more_ops, Regions, end_of_regions, region, Blocks, end_of_blocks, block, Values}
 
 abbrev mutual
+  -- an operation, with all in its regions
   pub op_stands : (Kind → Values → Bool) → (Values → Bool) → Op → Bool
   op_stands here args (op k results operands regions successors) = here k results && regions_stand here args regions
 

@@ -1,4 +1,4 @@
-//! Types and attributes that are read: types are formed, and numbers fit their types.
+//! Types, attributes and names that are read: types are formed, numbers fit their types, and functions have the names of functions.
 //!
 //! A crate of laws.
 #![tactic(auto)]
