@@ -6,23 +6,33 @@ use std::alloc::Global;
 use std::test::Fail;
 use tree_model::{Bytes, ModuleTree, Name, NoMemory};
 
-/// A run of `f`.
-fn run_of(args: &[i128], fuel: u32) -> Run<'_> {
-    Run {
+/// The lines on a run of `f` of the module that was read.
+fn source(alloc: Global, tree: &ModuleTree, args: &[i128], fuel: u32) -> Result<Bytes, NoMemory> {
+    let run = Run {
         name: b"f",
         args,
         fuel,
         bits: 64,
-    }
+    };
+    source_text(alloc, tree, run)
+}
+
+/// The lines on a run of `f` of the module behind the pipeline.
+fn lowered(alloc: Global, tree: &ModuleTree, args: &[i128], fuel: u32) -> Result<Bytes, NoMemory> {
+    let run = Run {
+        name: b"f",
+        args,
+        fuel,
+        bits: 64,
+    };
+    lowered_text(alloc, tree, run)
 }
 
 /// The lines on both runs of `f` of one module.
-fn both(alloc: Global, tree: &ModuleTree, run: Run<'_>) -> Result<Bytes, NoMemory>
-    requires one { 1 ≤ run.bits }
-    requires most { run.bits ≤ 64 }
-{
-    let mut out = source_text(alloc, tree, run)?;
-    out.put(lowered_text(alloc, tree, run)?.as_slice())?;
+fn both(alloc: Global, tree: &ModuleTree, args: &[i128], fuel: u32) -> Result<Bytes, NoMemory> {
+    let mut out = source(alloc, tree, args, fuel)?;
+    let more = lowered(alloc, tree, args, fuel)?;
+    out.put(more.as_slice())?;
     Ok(out)
 }
 
@@ -39,31 +49,41 @@ fn with_llvm_function(alloc: Global, tree: ModuleTree) -> Result<ModuleTree, NoM
 
 #[test]
 fn a_result_stands_behind_done(rt: HostRuntime) -> Result<(), Fail> {
-    let alloc = rt.alloc();
-    let text = both(alloc, &loop_by(alloc, 2)?, run_of(&[], 1000))?;
-    assert_eq!(rt;
-        text.as_slice(),
-        b"source: done 15\nlowered: done 15\n".as_slice()
-    );
+    let tree = loop_by(rt.alloc(), 2)?;
+    let text = both(rt.alloc(), &tree, &[], 1000)?;
+    let lines = b"source: done 15\nlowered: done 15\n";
+    assert_eq!(rt; text.as_slice(), lines.as_slice());
     Ok(())
 }
 
 #[test]
-fn other_ends_are_words(rt: HostRuntime) -> Result<(), Fail> {
-    let alloc = rt.alloc();
-    let undefined = source_text(alloc, &loop_by(alloc, 0)?, run_of(&[], 1000))?;
-    assert_eq!(rt; undefined.as_slice(), b"source: undefined\n".as_slice());
-    let more = source_text(alloc, &loop_by(alloc, 2)?, run_of(&[], 14))?;
-    assert_eq!(rt; more.as_slice(), b"source: more\n".as_slice());
-    let outside = source_text(alloc, &loop_by(alloc, 2)?, run_of(&[1], 14))?;
-    assert_eq!(rt; outside.as_slice(), b"source: outside\n".as_slice());
+fn a_step_of_0_is_told_as_undefined(rt: HostRuntime) -> Result<(), Fail> {
+    let tree = loop_by(rt.alloc(), 0)?;
+    let text = source(rt.alloc(), &tree, &[], 1000)?;
+    assert_eq!(rt; text.as_slice(), b"source: undefined\n".as_slice());
+    Ok(())
+}
+
+#[test]
+fn want_of_fuel_is_told_as_more(rt: HostRuntime) -> Result<(), Fail> {
+    let tree = loop_by(rt.alloc(), 2)?;
+    let text = source(rt.alloc(), &tree, &[], 14)?;
+    assert_eq!(rt; text.as_slice(), b"source: more\n".as_slice());
+    Ok(())
+}
+
+#[test]
+fn an_argument_too_many_is_told_as_outside(rt: HostRuntime) -> Result<(), Fail> {
+    let tree = loop_by(rt.alloc(), 2)?;
+    let text = source(rt.alloc(), &tree, &[1], 14)?;
+    assert_eq!(rt; text.as_slice(), b"source: outside\n".as_slice());
     Ok(())
 }
 
 #[test]
 fn each_call_has_a_line(rt: HostRuntime) -> Result<(), Fail> {
-    let alloc = rt.alloc();
-    let text = source_text(alloc, &nested_ticks(alloc)?, run_of(&[], 1000))?;
+    let tree = nested_ticks(rt.alloc())?;
+    let text = source(rt.alloc(), &tree, &[], 1000)?;
     let lines =
         b"source: done\ncall @tick(0) = 0\ncall @tick(1) = 0\ncall @tick(0) = 0\ncall @tick(1) = 0\n";
     assert_eq!(rt; text.as_slice(), lines.as_slice());
@@ -72,13 +92,11 @@ fn each_call_has_a_line(rt: HostRuntime) -> Result<(), Fail> {
 
 #[test]
 fn llvm_operations_have_100_times_the_fuel(rt: HostRuntime) -> Result<(), Fail> {
-    let alloc = rt.alloc();
-    let tree = with_llvm_function(alloc, counted_l(alloc)?)?;
-    let text = both(alloc, &tree, run_of(&[5], 2))?;
-    assert_eq!(rt;
-        text.as_slice(),
-        b"source: more\nlowered: done 57\n".as_slice()
-    );
+    let structured = counted_l(rt.alloc())?;
+    let tree = with_llvm_function(rt.alloc(), structured)?;
+    let text = both(rt.alloc(), &tree, &[5], 2)?;
+    let lines = b"source: more\nlowered: done 57\n";
+    assert_eq!(rt; text.as_slice(), lines.as_slice());
     Ok(())
 }
 
@@ -94,30 +112,42 @@ fn four_times(alloc: Global) -> Result<ModuleTree, NoMemory> {
 }
 
 #[test]
-fn an_index_is_as_wide_as_the_run_says(rt: HostRuntime) -> Result<(), Fail> {
-    let alloc = rt.alloc();
-    let tree = four_times(alloc)?;
-    let wide = run_of(&[2147483647], 1000);
-    let text = source_text(alloc, &tree, wide)?;
+fn an_index_of_64_bits_holds_what_doubles_twice(rt: HostRuntime) -> Result<(), Fail> {
+    let tree = four_times(rt.alloc())?;
+    let text = source(rt.alloc(), &tree, &[2147483647], 1000)?;
     assert_eq!(rt; text.as_slice(), b"source: done 8589934588\n".as_slice());
-    let narrow = Run { bits: 32, ..wide };
-    let text = lowered_text(alloc, &tree, narrow)?;
-    assert_eq!(rt; text.as_slice(), b"lowered: done -4\n".as_slice());
     Ok(())
 }
 
 #[test]
-fn a_number_of_one_bit_is_a_word(rt: HostRuntime) -> Result<(), Fail> {
-    let alloc = rt.alloc();
-    let types = [Ty::Int(1), Ty::Int(8)];
-    let results = [(1, types[0])];
+fn an_index_of_32_bits_wraps(rt: HostRuntime) -> Result<(), Fail> {
+    let tree = four_times(rt.alloc())?;
+    let narrow = Run {
+        name: b"f",
+        args: &[2147483647],
+        fuel: 1000,
+        bits: 32,
+    };
+    let text = lowered_text(rt.alloc(), &tree, narrow)?;
+    assert_eq!(rt; text.as_slice(), b"lowered: done -4\n".as_slice());
+    Ok(())
+}
+
+/// A function `f` that gives whether its argument is less than itself, and the argument.
+fn less_and_itself(alloc: Global) -> Result<ModuleTree, NoMemory> {
     let less = Line {
         note: Note::Predicate(2),
-        ..plain(b"arith.cmpi", &results, &[0, 0])
+        ..plain(b"arith.cmpi", &[(1, Ty::Int(1))], &[0, 0])
     };
     let lines = [less, plain(b"func.return", &[], &[1, 0])];
-    let tree = one_function(alloc, &[(0, types[1])], &types[1..2], &types, &lines)?;
-    let text = source_text(alloc, &tree, run_of(&[255], 1000))?;
+    let results = [Ty::Int(1), Ty::Int(8)];
+    one_function(alloc, &[(0, Ty::Int(8))], &[Ty::Int(8)], &results, &lines)
+}
+
+#[test]
+fn a_number_of_one_bit_is_a_word(rt: HostRuntime) -> Result<(), Fail> {
+    let tree = less_and_itself(rt.alloc())?;
+    let text = source(rt.alloc(), &tree, &[255], 1000)?;
     assert_eq!(rt; text.as_slice(), b"source: done false, -1\n".as_slice());
     Ok(())
 }

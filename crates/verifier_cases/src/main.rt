@@ -1,9 +1,13 @@
 //! The first rule that each module of standard input breaks, one line a module.
 //!
-//! A module is the text behind a line `-- NAME`, up to the next such line; what stands before the first one is a comment.
+//! A module is the text behind a line `-- NAME`, up to the next such line; what stands before the first one is a comment. Behind those of
+//! standard input come two modules of a function with 4,096 blocks.
 #![tactic(auto)]
 
+mod ladder;
+
 use ir_verifier::verify;
+use ladder::{Ladder, text_of};
 use std::alloc::Global;
 use std::io;
 use tree_model::ModuleTree;
@@ -27,8 +31,10 @@ fn write_verdict(
     }
 }
 
-fn write_case(rt: &impl Print, alloc: Global, piece: &str) -> io::Result<()> {
-    let (name, text) = piece.split_once('\n').unwrap_or((piece, ""));
+/// The most blocks that a function has.
+const MAX_BLOCKS: u32 = 4096;
+
+fn write_case(rt: &impl Print, alloc: Global, name: &str, text: &str) -> io::Result<()> {
     if text.len() > MAX_TEXT {
         return println!(rt; "{name}: too long");
     }
@@ -38,10 +44,27 @@ fn write_case(rt: &impl Print, alloc: Global, piece: &str) -> io::Result<()> {
     }
 }
 
+/// A function of many blocks, in which the block of a place uses the value of the last one (none where it is 0).
+fn write_ladder(rt: &impl Print, alloc: Global, name: &str, reaches_on: u32) -> io::Result<()> {
+    let ladder = Ladder {
+        blocks: MAX_BLOCKS,
+        reaches_on,
+    };
+    let text = text_of(alloc, ladder)?;
+    write_case(rt, alloc, name, &text)
+}
+
 fn main(rt: HostRuntime) -> io::Result<()> {
     let input = io::read_to_string(rt.alloc(), rt.stdin())?;
     for piece in input.as_str().split("\n-- ").skip(1) {
-        write_case(&rt, rt.alloc(), piece)?;
+        let (name, text) = piece.split_once('\n').unwrap_or((piece, ""));
+        write_case(&rt, rt.alloc(), name, text)?;
     }
-    Ok(())
+    write_ladder(&rt, rt.alloc(), "4,096 blocks", 0)?;
+    write_ladder(
+        &rt,
+        rt.alloc(),
+        "4,096 blocks, the last value in the third",
+        2,
+    )
 }

@@ -1,0 +1,4 @@
+pub mod Standing
+pub mod Fitting
+pub mod Naming
+pub mod Laws
