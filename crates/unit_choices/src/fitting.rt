@@ -8,8 +8,14 @@ ghost use Rattle.row_code.specs.Shapes.{shape_of};
 ghost use Rattle.value_types.specs.Views.{type_at};
 
 use row_code::ShapeTree;
-use tree_model::{OpTree, TypeTree, same_dict, same_type};
+use tree_model::{Name, OpTree, TypeTree, same_dict, same_type};
 use value_types::ValueTypes;
+
+fn same_name(a: &Name, b: &Name) -> bool
+    ensures { IsTrue result → a.now ≡ b.now }
+{
+    a == b
+}
 
 #[tactic(auto, using(row_code::proofs::Opens::type_opens))]
 fn is_void(t: &TypeTree) -> bool
@@ -46,6 +52,13 @@ fn have_types(types: &ValueTypes<'_>, operands: &[u32], expected: &[TypeTree]) -
     true
 }
 
+/// Whether a value is of that type.
+fn is_of(value: &(u32, TypeTree), t: &TypeTree) -> bool
+    ensures { IsTrue result → plain_type value.now.1 ≡ plain_type t.now }
+{
+    same_type(&value.1, t)
+}
+
 /// Whether these values are of these types.
 fn are_of(results: &[(u32, TypeTree)], expected: &[TypeTree]) -> bool
     ensures { IsTrue result → map (λ v. plain_type v.1) results.now ≡ map plain_type expected.now }
@@ -54,7 +67,7 @@ fn are_of(results: &[(u32, TypeTree)], expected: &[TypeTree]) -> bool
         return false;
     }
     'each: for index in 0..results.len() {
-        if !same_type(&results[index].1, &expected[index]) {
+        if !is_of(&results[index], &expected[index]) {
             return false;
         }
     }
@@ -62,14 +75,27 @@ fn are_of(results: &[(u32, TypeTree)], expected: &[TypeTree]) -> bool
 }
 
 /// Whether an operation has a shape, where its values have these types.
+#[tactic(auto, using(unit_views::proofs::Layers::layers))]
 pub fn fits(types: &ValueTypes<'_>, op: &OpTree, shape: &ShapeTree) -> bool
     ensures { IsTrue result → shape_of shape.now ≡ shape_in (type_at types.now) (plain_op op.now) }
 {
-    op.name == shape.name
-        && op.successors.len() == shape.successors as usize
-        && op.regions.len() == shape.regions as usize
-        && are_of(op.results.as_slice(), shape.results.as_slice())
-        && have_types(types, op.operands.as_slice(), shape.operands.as_slice())
-        && same_dict(op.props.as_slice(), shape.props.as_slice())
-        && same_dict(op.attrs.as_slice(), shape.attrs.as_slice())
+    if !same_name(&op.name, &shape.name) {
+        return false;
+    }
+    if op.successors.len() != shape.successors as usize {
+        return false;
+    }
+    if op.regions.len() != shape.regions as usize {
+        return false;
+    }
+    if !are_of(op.results.as_slice(), shape.results.as_slice()) {
+        return false;
+    }
+    if !have_types(types, op.operands.as_slice(), shape.operands.as_slice()) {
+        return false;
+    }
+    if !same_dict(op.props.as_slice(), shape.props.as_slice()) {
+        return false;
+    }
+    same_dict(op.attrs.as_slice(), shape.attrs.as_slice())
 }
