@@ -1,9 +1,8 @@
-use Rattle.std.proofs.Common.{◌≡◌, ◌∙◌, List, ℕ, [], ap, subst, sym, true, Option}
+use Rattle.std.proofs.Common.{◌∙◌, List, ℕ, [], ap, subst, sym, Option}
 use Rattle.plain_tree.specs.Ops.{plain_op}
 use Rattle.conversion_model.specs.Chosen.{Leaves, chosen}
 use Rattle.conversion_model.specs.Targets.{Shape, demanded}
 use Rattle.conversion_target.specs.Targets.{target_of}
-use Rattle.row_code.specs.Shapes.{shape_of}
 use Rattle.value_types.specs.Views.{type_at}
 use Rattle.unit_views.specs.Modes.{mode_of}
 use Rattle.unit_choices.specs.declared.choice_tree.ChoiceTree.{ChoiceTree}

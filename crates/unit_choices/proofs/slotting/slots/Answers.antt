@@ -1,4 +1,4 @@
-use Rattle.std.proofs.Common.{◌≡◌, ◌+◌, ◌∙◌, None, Option, ap, subst, sym, arith}
+use Rattle.std.proofs.Common.{◌≡◌, ◌+◌, None, Option, subst, arith}
 use Rattle.std.proofs.lemmas.Grind.{common_steps}
 use Rattle.plain_tree.specs.Ops.{plain_op}
 use Rattle.conversion_target.specs.Targets.{target_of}
