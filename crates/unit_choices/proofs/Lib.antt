@@ -7,3 +7,4 @@ pub mod ListLaws
 pub mod SlotLaws
 pub mod RenameLaws
 pub mod WholeLaws
+pub mod MemoLaws

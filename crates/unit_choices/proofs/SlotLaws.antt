@@ -37,7 +37,7 @@ use Rattle.unit_choices.proofs.RoomLaws.{Means, choice_means, order_below}
 
 line_says : (w : Ways) (new : Supply) (type_of : ℕ → PlainType) (n : ℕ) (o : Op) (s : Slot) (x : Option Template) → slot_line s ≡ Some x → IsLine w new n o x → SlotSays w new type_of n o s
 line_says w new type_of n o Keeps x e h = let same : x ≡ None = cc in subst (IsLine w new n o) same h
-line_says w new type_of n o (Line t) x e h = let same : x ≡ Some (plain_template t) = cc in subst (IsLine w new n o) same h
+line_says w new type_of n o (Line t) x e h = let same : x ≡ Some (plain_template t.value) = cc in subst (IsLine w new n o) same h
 line_says w new type_of n o (Cuts c) x e h = absurd (cc)
 
 demanded_line : (d legal : Bool) (f : ℕ → ℕ) (kept : Op) (x : Option Template) → d ≡ true

@@ -4,4 +4,5 @@ pub mod Separate
 pub mod Entries
 pub mod Choosing
 pub mod Slotting
+pub mod Memos
 pub mod Answers

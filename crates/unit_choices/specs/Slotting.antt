@@ -2,7 +2,6 @@
 use Rattle.std.specs.Prelude.{◌≡◌, ℕ, ◌+◌, Bool, true, false, not, ◌&&◌, List, [], ◌∷◌, Option, Some, None, is_some, ⊤}
 use Rattle.plain_tree.specs.Types.{PlainType}
 use Rattle.plain_tree.specs.Ops.{Op}
-use Rattle.conversion_model.specs.declared.templates.TemplateTree.{TemplateTree}
 use Rattle.conversion_model.specs.Templates.{Template}
 use Rattle.conversion_model.specs.Targets.{demanded, shape_of}
 use Rattle.conversion_model.specs.Conversion.{Pass, Supply, choice_in, ways}
@@ -33,15 +32,10 @@ abbrev pub EachSeparate : Supply → (ℕ → PlainType) → List Op → Type 0
 EachSeparate new type_of [] = ⊤
 EachSeparate new type_of (o ∷ os) = ((n : ℕ) → Separate (new.row n) type_of o) × EachSeparate new type_of os
 
--- the slot of an operation that becomes these operations one after another, or itself
-abbrev pub line_slot : Option TemplateTree → Slot
-line_slot None = Keeps
-line_slot (Some t) = Line t
-
 -- the line that a slot is, none of a cut
 abbrev pub slot_line : Slot → Option (Option Template)
 slot_line Keeps = Some None
-slot_line (Line t) = Some (Some (plain_template t))
+slot_line (Line t) = Some (Some (plain_template t.value))
 slot_line (Cuts c) = None
 
 -- the slot of a choice, where these are the leaves of the operation's shape

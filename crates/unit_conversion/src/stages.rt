@@ -60,6 +60,8 @@ pub(crate) fn made(
 {
     let Replacement { op, mut numbers } = replaced(alloc, chosen, f)?;
     let converted = with_blocks(alloc, bits, blocks, &mut numbers, op)?;
+    // Reconciliation is to have the room that they take.
+    drop(numbers);
     let g = finished(alloc, mode, converted)?;
     Ok(g)
 }

@@ -76,7 +76,7 @@ IsCut w new type_of n o place ps lines = (w.cuts n o ≡ Some (place, ps)) × Li
 -- a slot says what is done with the operation with this number
 abbrev pub SlotSays : Ways → Supply → (ℕ → PlainType) → ℕ → Op → Slot → Type 0
 SlotSays w new type_of n o Keeps = IsLine w new n o None
-SlotSays w new type_of n o (Line t) = IsLine w new n o (Some (plain_template t))
+SlotSays w new type_of n o (Line t) = IsLine w new n o (Some (plain_template t.value))
 SlotSays w new type_of n o (Cuts c) = IsCut w new type_of n o c.place (pieces_of (new.row n) type_of c.pieces) c.lines
 
 -- P of each of these operations with its number

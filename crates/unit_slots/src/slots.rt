@@ -3,6 +3,7 @@
 use conversion_model::TemplateTree;
 use cut_code::{FrameTree, PieceList};
 use sqlite_items::Items;
+use std::rc::Rc;
 
 /// For each piece of a cut the leaves of its product: none where the piece is no product, or a product that is legal itself.
 pub type LineList = Items<Option<TemplateTree>>;
@@ -20,8 +21,8 @@ pub struct CutTree {
 pub enum Slot {
     /// The operation itself, over the regions that its own become.
     Keeps,
-    /// Operations one after another.
-    Line(TemplateTree),
+    /// Operations one after another. What operations of one shape become is there once.
+    Line(Rc<TemplateTree>),
     /// Pieces of the block that it stands in.
     Cuts(CutTree),
 }

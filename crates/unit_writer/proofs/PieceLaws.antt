@@ -1,6 +1,8 @@
 -- Steps of the walk through the pieces of a cut, and what the slots say.
 use Rattle.std.proofs.Common.{◌≡◌, ℕ, zero, suc, ◌+◌, ◌<◌, ◌≤◌, List, [], ◌∷◌, Option, Some, None, drop, get_or, length, refl, sym, ap, subst, ◌∙◌, arith}
 use Rattle.std.specs.Prelude.{⊤}
+use Rattle.std.specs.declared.alloc.Global.{Global}
+use Rattle.std.specs.declared.rc.Rc.{Rc}
 use Rattle.std.proofs.lemmas.List.{drop_all}
 use Rattle.plain_tree.specs.Types.{plain_type}
 use Rattle.plain_tree.specs.Ops.{Op, op, Regions, plain_values}
@@ -60,15 +62,17 @@ module _ (slots : List Slot) (sizes : List ℕ) (n : ℕ) (o : Op) (old new : St
       let says = subst (SlotSays m.ways (supply_of m.table) m.types n o) keeps (said_at s is m h) in
       uncut m more says.0 ∙ ap (λ os. puts os more) (says.1 (kept m)))
 
-  pub op_line : (s : Slot) (t : TemplateTree) → s ≡ get_or slots n Keeps → s ≡ Line t
+  pub op_line : (s : Slot) (l : Rc TemplateTree Global) (t : TemplateTree) → s ≡ get_or slots n Keeps → s ≡ Line l → t ≡ l.value
       → Writes (λ m. ⊤) (λ m more. puts (line_by ((supply_of m.table).value n 0) o (Some (plain_template t))) more) old new
       → Writes (λ m. EachOpIn (P m) n o) (λ m more. op_items m.ways n o more) old new
-  op_line s t is line w =
+  op_line s l t is line same w =
       comes_as table_of behind (λ m. EachOpIn (P m) n o) (λ m. ⊤) (λ m more. op_items m.ways n o more) (λ m more. puts (line_by ((supply_of m.table).value n 0) o (Some (plain_template t))) more) old new w
       (λ m h. tt)
       (λ m h more.
       let says = subst (SlotSays m.ways (supply_of m.table) m.types n o) line (said_at s is m h) in
-      uncut m more says.0 ∙ ap (λ os. puts os more) (says.1 (kept m) ∙ line_same ((supply_of m.table).value n 0) o (whole_regions (hs m)) (plain_template t)))
+      uncut m more says.0
+      ∙ ap (λ os. puts os more) (says.1 (kept m) ∙ line_same ((supply_of m.table).value n 0) o (whole_regions (hs m)) (plain_template l.value))
+      ∙ ap (λ x. puts (line_by ((supply_of m.table).value n 0) o (Some (plain_template x))) more) (sym same))
 
   abbrev pub CutSaid : CutTree → Reading → Type 0
   CutSaid c m = EachRegionIn (P m) (n + 1) (regions_of o) × LinesSay m.ways (supply_of m.table) n c.place 1 (pieces_of ((supply_of m.table).row n) m.types c.pieces) c.lines

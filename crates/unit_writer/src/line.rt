@@ -16,9 +16,8 @@ use crate::notes::Notes;
 use crate::page::Page;
 use conversion_model::{Source, StepTree, TemplateTree};
 use new_numbers::NewNumbers;
-use sqlite_items::Items;
 use std::alloc::{AllocError, Global};
-use tree_model::{IdList, NoMemory, OpTree, TypeTree, ValueList, copy_dict, copy_type};
+use tree_model::{IdList, NoMemory, OpTree, TypeTree, ValueList, copy_dict, copy_type, room_for};
 
 /// What a template is written with: the numbers of its values, and the operands and successors of what it replaces.
 #[derive(Drop)]
@@ -63,7 +62,7 @@ impl<'a> Line<'a> {
     fn numbers(&self, sources: &[Source], numbers: &mut NewNumbers) -> Result<IdList, NoMemory>
         ensures { IfOk result (λ ns. Asked (numbering_of numbers.old) (numbering_of numbers.new) (λ u. map (number_of (name_by self.now.names u) self.now.operands.now) sources.now ≡ ns)) }
     {
-        let mut list = Items::new(self.alloc);
+        let mut list = room_for(self.alloc, sources.len())?;
         for source in sources {
             let number = self.number(*source, numbers)?;
             list.push(number)?;
@@ -80,7 +79,7 @@ impl<'a> Line<'a> {
     ) -> Result<ValueList, NoMemory>
         ensures { IfOk result (λ vs. Asked (numbering_of numbers.old) (numbering_of numbers.new) (λ u. values_made (name_by self.now.names u) first (map plain_type types.now) ≡ plain_values vs)) }
     {
-        let mut list = Items::new(self.alloc);
+        let mut list = room_for(self.alloc, types.len())?;
         let mut place = first;
         for t in types {
             let number = self.names.name(place, numbers)?;
@@ -106,7 +105,7 @@ impl<'a> Line<'a> {
     fn successors(&self, places: &[u32]) -> Result<IdList, NoMemory>
         ensures { IfOk result (λ ls. ls ≡ labels_at self.now.labels.now places.now) }
     {
-        let mut list = Items::new(self.alloc);
+        let mut list = room_for(self.alloc, places.len())?;
         for place in places {
             self.push_label(*place, &mut list)?;
         }

@@ -11,9 +11,8 @@ use crate::kept::op_of;
 use conversion_model::TemplateTree;
 use cut_code::{CutLabel, CutValue, ProductTree};
 use new_numbers::{NewNumbers, ValuePlace};
-use sqlite_items::Items;
 use std::alloc::Global;
-use tree_model::{IdList, NoMemory, OpTree, TypeTree, ValueList, copy_dict, copy_type};
+use tree_model::{IdList, NoMemory, OpTree, TypeTree, ValueList, copy_dict, copy_type, room_for};
 
 /// The template at a place among those of a cut's products, where there is one.
 pub fn line_at(lines: &[Option<TemplateTree>], index: usize) -> Option<&TemplateTree>
@@ -53,7 +52,7 @@ fn values_of(
 ) -> Result<IdList, NoMemory>
     ensures { IfOk result (λ ns. Asked (numbering_of numbers.old) (numbering_of numbers.new) (λ u. map (value_at ((supply_of u).row number)) values.now ≡ ns)) }
 {
-    let mut list = Items::new(alloc);
+    let mut list = room_for(alloc, values.len())?;
     for value in values {
         let value = value_of(*value, number, numbers)?;
         list.push(value)?;
@@ -69,7 +68,7 @@ fn labels_of(
 ) -> Result<IdList, NoMemory>
     ensures { IfOk result (λ ns. Asked (numbering_of numbers.old) (numbering_of numbers.new) (λ u. map (label_at ((supply_of u).row number)) labels.now ≡ ns)) }
 {
-    let mut list = Items::new(alloc);
+    let mut list = room_for(alloc, labels.len())?;
     for label in labels {
         let label = label_of(*label, number, numbers)?;
         list.push(label)?;
@@ -85,7 +84,7 @@ fn results_of(
 ) -> Result<ValueList, NoMemory>
     ensures { IfOk result (λ vs. Asked (numbering_of numbers.old) (numbering_of numbers.new) (λ u. new_results ((supply_of u).row number) results.now ≡ plain_values vs)) }
 {
-    let mut list = Items::new(alloc);
+    let mut list = room_for(alloc, results.len())?;
     for known in results {
         let value = numbers.value(ValuePlace::OfRow(number, known.0))?;
         list.push((value, copy_type(alloc, &known.1)?))?;

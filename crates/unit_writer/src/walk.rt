@@ -70,7 +70,14 @@ fn write_op(
     match guide.slot(number) {
         None => write_kept(op, number, guide, page, notes)?,
         Some(Slot::Keeps) => write_kept(op, number, guide, page, notes)?,
-        Some(Slot::Line(template)) => write_line(op, (number, 0), template, guide, page, notes)?,
+        Some(Slot::Line(template)) => write_line(
+            op,
+            (number, 0),
+            template.as_ref(),
+            guide,
+            page,
+            notes,
+        )?,
         Some(Slot::Cuts(cut)) => write_cut(
             op,
             number,

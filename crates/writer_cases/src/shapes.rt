@@ -6,6 +6,7 @@ use cut_code::{
 };
 use sqlite_items::Items;
 use std::alloc::Global;
+use std::rc::Rc;
 use tree_model::{
     BlockList, BlockTree, Name, NoMemory, OpList, OpTree, RegionList, RegionTree, TypeList,
     TypeTree, ValueList,
@@ -317,7 +318,7 @@ fn cut(alloc: Global, list: &[Piece]) -> Result<CutTree, NoMemory> {
 fn slot(alloc: Global, chosen: &Chosen) -> Result<Slot, NoMemory> {
     match chosen {
         Chosen::Keeps => Ok(Slot::Keeps),
-        Chosen::Line(line) => Ok(Slot::Line(template(alloc, line)?)),
+        Chosen::Line(line) => Ok(Slot::Line(Rc::new(alloc, template(alloc, line)?)?)),
         Chosen::Cuts(list) => Ok(Slot::Cuts(cut(alloc, list)?)),
     }
 }

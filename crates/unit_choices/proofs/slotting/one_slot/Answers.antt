@@ -1,28 +1,15 @@
-use Rattle.std.proofs.Common.{◌≡◌, ◌∙◌, List, ℕ, [], ap, subst, sym, true, Option, arith}
-use Rattle.std.proofs.lemmas.Grind.{common_steps}
+use Rattle.std.proofs.Common.{ap, refl}
 use Rattle.plain_tree.specs.Ops.{plain_op}
-use Rattle.conversion_model.specs.Chosen.{Leaves, chosen}
-use Rattle.conversion_model.specs.Targets.{Shape, demanded}
+use Rattle.conversion_model.specs.Targets.{shape_of}
 use Rattle.conversion_target.specs.Targets.{target_of}
-use Rattle.row_code.specs.Shapes.{shape_of}
 use Rattle.value_types.specs.Views.{type_at}
+use Rattle.choice_code.specs.Plain.{plain_template}
 use Rattle.unit_views.specs.Modes.{mode_of}
-use Rattle.unit_choices.specs.declared.choice_tree.ChoiceTree.{ChoiceTree}
 use Rattle.unit_choices.specs.Answers.{pass_of}
-use Rattle.unit_choices.specs.Choosing.{ChoiceStands, choice_or_none}
-use Rattle.unit_choices.specs.Slotting.{SlotFor}
-use Rattle.unit_choices.proofs.SlotLaws.{slot_is}
+use Rattle.unit_choices.proofs.MemoLaws.{line_is}
 use Rattle.unit_choices.proofs.slotting.one_slot.Goals as goal
 
-pub returns-in-Some : goal.returns-in-Some
-returns-in-Some g c = λ blocks new n apart.
-    let target = target_of c.args.pass.now.target.now in
-    let table = g.S.Rows.table c.args.pass.now.set.now in
-    let leaves : List ℕ → Leaves = chosen c.args.pass.now.bits target table in
-    let wanted : demanded (mode_of c.args.mode) target (shape_of c.in_ok-shape.shape) ≡ true = grind (arith, common_steps) in
-    slot_is (pass_of table target (mode_of c.args.mode) blocks) c.args.pass.now.bits new (type_at c.args.types.now) n (plain_op c.args.op.now) c.in-Some.found c.in_ok-slot-in-Some.slot
-    (ap (demanded (mode_of c.args.mode) target) (sym c.in_ok-shape.ensures) ∙ wanted)
-    (sym (ap (choice_or_none (new.row n) (type_at c.args.types.now)) c.in-Some.is) ∙ c.in_ok-found.ensures.is (new.row n) apart)
-    (subst (λ (x : Option ChoiceTree). ChoiceStands target leaves (type_at c.args.types.now) (plain_op c.args.op.now) x) c.in-Some.is c.in_ok-found.ensures.stands)
-    apart
-    (subst (λ (s : Shape). SlotFor (leaves [] s) c.in-Some.found c.in_ok-slot-in-Some.slot) c.in_ok-shape.ensures c.in_ok-slot-in-Some.ensures)
+pub returns-in-Some-clause-slot : goal.returns-in-Some-clause-slot
+returns-in-Some-clause-slot g c = λ blocks new n apart.
+    line_is (pass_of (g.S.Rows.table c.args.pass.now.set.now) (target_of c.args.pass.now.target.now) (mode_of c.args.mode) blocks) c.args.pass.now.bits new (type_at c.args.types.now) n (plain_op c.args.op.now) c.in_ok-line.line
+    (shape_of (type_at c.args.types.now) (plain_op c.args.op.now)) (plain_template c.in-Some.line.now.value) refl (ap plain_template c.in_ok-line.ensures.cases) c.in-Some.ensures apart

@@ -1,4 +1,4 @@
-use Rattle.std.proofs.Common.{◌≡◌, ◌+◌, ◌∙◌, None, Option, ap, subst, sym, arith}
+use Rattle.std.proofs.Common.{◌≡◌, ◌+◌, None, Option, subst, arith}
 use Rattle.std.proofs.lemmas.Grind.{common_steps}
 use Rattle.plain_tree.specs.Ops.{plain_op}
 use Rattle.conversion_target.specs.Targets.{target_of}
@@ -22,12 +22,13 @@ returns-in_default g c = λ blocks new apart.
     let missing : c.in_ok-slot.field-0 ≡ None = grind (arith, common_steps) in
     slots_fail p c.args.pass.now.bits new (type_at c.args.types.now) os c.each.place o c.each.slots.items (unlegalised c.in_ok-failed.failed) below at
     (subst (λ (x : Option Slot). SlotIs p c.args.pass.now.bits new (type_at c.args.types.now) (c.each.place + 1) o x) missing
-    (c.in_ok-slot.ensures blocks new (c.each.place + 1) (separate_at new (type_at c.args.types.now) os c.each.place o below at apart (c.each.place + 1))))
-    (c.each.invariant.1 blocks new apart) c.in_ok-failed.ensures
+    (c.in_ok-slot.ensures.slot blocks new (c.each.place + 1) (separate_at new (type_at c.args.types.now) os c.each.place o below at apart (c.each.place + 1))))
+    (c.each.invariant.2 blocks new apart) c.in_ok-failed.ensures
 
 pub each-preserved : goal.each-preserved
 each-preserved g c = (
   one_more c.each.slots.items c.push-in-each.new.self.items c.in-Some.slot (c.each.place + 1) c.each.invariant.0 c.in_ok-push-2.ensures.items,
+  c.in_ok-slot.ensures.memo,
   λ blocks new apart.
       let p = pass_of (g.S.Rows.table c.args.pass.now.set.now) (target_of c.args.pass.now.target.now) (mode_of c.args.mode) blocks in
       let o = plain_op c.index-ops-place.result.now in
@@ -36,11 +37,11 @@ each-preserved g c = (
       let at = op_at c.args.ops.now c.each.place c.index-ops-place.result c.index-ops-place.is in
       slots_more p c.args.pass.now.bits new (type_at c.args.types.now) os c.each.place o c.each.slots.items c.push-in-each.new.self.items c.in-Some.slot below at c.each.invariant.0 c.in_ok-push-2.ensures.items
       (subst (λ (x : Option Slot). SlotIs p c.args.pass.now.bits new (type_at c.args.types.now) (c.each.place + 1) o x) c.in-Some.is
-      (c.in_ok-slot.ensures blocks new (c.each.place + 1) (separate_at new (type_at c.args.types.now) os c.each.place o below at apart (c.each.place + 1))))
-      (c.each.invariant.1 blocks new apart),
+      (c.in_ok-slot.ensures.slot blocks new (c.each.place + 1) (separate_at new (type_at c.args.types.now) os c.each.place o below at apart (c.each.place + 1))))
+      (c.each.invariant.2 blocks new apart),
 )
 
 pub returns : goal.returns
 returns g c = λ blocks new apart.
     slots_end (pass_of (g.S.Rows.table c.args.pass.now.set.now) (target_of c.args.pass.now.target.now) (mode_of c.args.mode) blocks) c.args.pass.now.bits new (type_at c.args.types.now) (plain_ops c.args.ops.now) c.each.place c.each.slots.items
-    (above_ops c.args.ops.now c.each.place c.each-test.false) (c.each.invariant.1 blocks new apart)
+    (above_ops c.args.ops.now c.each.place c.each-test.false) (c.each.invariant.2 blocks new apart)

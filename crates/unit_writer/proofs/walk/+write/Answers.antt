@@ -78,7 +78,7 @@ write_kept-returns t c =
 
 pub write_op-returns-in_ok-write_line-in-Some-Line : goal.write_op-returns-in_ok-write_line-in-Some-Line
 write_op-returns-in_ok-write_line-in-Some-Line t c =
-    op_line _ _ c.args.number (plain_op c.args.op.now) _ _ (slot_or c.slot.result) c.in-Some-Line.template c.slot.ensures (ap slot_or c.in-Some-Line.is ∙ c.in-Some-Line.field-0-is) c.in_ok-write_line-in-Some-Line.ensures
+    op_line _ _ c.args.number (plain_op c.args.op.now) _ _ (slot_or c.slot.result) c.in-Some-Line.template c.as_ref.result.now c.slot.ensures (ap slot_or c.in-Some-Line.is ∙ c.in-Some-Line.field-0-is) c.as_ref.ensures c.in_ok-write_line-in-Some-Line.ensures
 
 pub write_op-returns-in_ok-write_cut-in-Some-Cuts : goal.write_op-returns-in_ok-write_cut-in-Some-Cuts
 write_op-returns-in_ok-write_cut-in-Some-Cuts t c =
